@@ -39,7 +39,7 @@ use Rattle.bfs_liveness.specs.Even.{AreEven}
 use Rattle.bfs_liveness.specs.LawsOfExecuting.{FullWindowsAreEmptied, IsEmptied, IsFull, IsSettled, NoneIsBeyond, NoneIsLeftOut, WhatIsStableIsSettled}
 use Rattle.bfs_liveness.specs.Ways.{AreFairTo, IsWay, MayTake}
 use Rattle.bfs_liveness.proofs.Digests.{same_digests}
-use Rattle.bfs_liveness.proofs.Executions.{IsExecuted, executed_to, turns_keep}
+use Rattle.bfs_liveness.proofs.Executions.{IsExecuted, executed_to, live_files, turns_keep}
 use Rattle.bfs_liveness.proofs.Filled.{greatest_under}
 use Rattle.bfs_liveness.proofs.Hearing.{HasHeardAll, IsHearing, all_heard, hearing_nothing}
 use Rattle.bfs_liveness.proofs.Lists.{out_of_each, out_of_where}
@@ -229,10 +229,6 @@ module _ (laws : Below) (again : WhatIsResentIsFair) (left_out : NoneIsLeftOut) 
     taken : HasTaken end (order_of w2 k) (order_of w3 k)
     has : has_slot (known (order_of w3 k)) 5 (order_of w3 k).me 0 end ≡ true
     live : is_some (w3 k).node.files ≡ true
-
-  live_files : (o : Option FileSystem) → is_some o ≡ true → (x : FileSystem) × (o ≡ Some x)
-  live_files None e = absurd cc
-  live_files (Some x) e = (x, refl)
 
   told_here : (k : ℕ) → members k ≡ true → HasTold k
   told_here k x =

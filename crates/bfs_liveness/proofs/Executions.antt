@@ -46,6 +46,11 @@ executed_there w k (suc count) =
     ap (λ (x : NodeReplicas). (x k).node) (after_join w before (one ∷ [])) ∙ ap (λ (r : NodeReplica). r.node) (here_after (after_node_turns w before) one)
     ∙ ap (λ (n : Node). (steps.outcome n steps.Executes).now) (executed_there w k count)
 
+-- a file system that has not failed
+pub live_files : (o : Option FileSystem) → is_some o ≡ true → (files : FileSystem) × (o ≡ Some files)
+live_files None e = absurd cc
+live_files (Some files) e = (files, refl)
+
 -- nothing else of its order changes
 pub record IsExecuted (s : State) (number : ℕ) (node : Node) : Type 0 where
   pub order : node.order ≡ record s { last = number }

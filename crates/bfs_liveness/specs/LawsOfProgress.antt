@@ -7,7 +7,7 @@ use Rattle.bfs_model.specs.Server.Limits.{log_size}
 use Rattle.bfs_model.specs.Server.Stored.{IsTime}
 use Rattle.bfs_model.specs.Server.Tree.{FileSystem, Time}
 use Rattle.bfs_order.specs.Replica.Proposing.{next_number}
-use Rattle.bfs_votes.specs.Votes.{primary}
+use Rattle.bfs_votes.specs.Votes.{primary, replicas}
 use Rattle.bfs_agreement.specs.Histories.{IsIn}
 use Rattle.bfs_node.specs.Forgetting.{is_new}
 use Rattle.bfs_node.specs.Proposing.{pending_batch}
@@ -98,3 +98,13 @@ EachRequestIsExecuted = (f : ℕ) (keys : Keyring) (start : Beginning) (faulty m
     × IsARun f keys start faulty (turns ++ way)
     × ((one : Signed model.Request) → ((k : ℕ) → members k ≡ true → IsIn one (reached f keys start turns k).node.pending)
     → IsServed start faulty members (reached f keys start (turns ++ way)) one)
+
+-- and for each member there is one behind which each request that waits at that one is served: it leads one of 3f + 1 views in a row, of which there are 2^63
+abbrev pub WhatWaitsAtOneIsExecuted : Type 0
+WhatWaitsAtOneIsExecuted = (f : ℕ) (keys : Keyring) (start : Beginning) (faulty members : ℕ → Bool) (turns : List NodeTurn) (k : ℕ) (time : Time)
+    → IsARun f keys start faulty turns → AreMembers f faulty members → AreFairTo f keys start faulty members turns → HasFuture f members (reached f keys start turns)
+    → ((j : ℕ) → members j ≡ true → asked_by (reached f keys start turns) j + (replicas f + 1) ≤ 2 ^ 63) → IsTime time → members k ≡ true
+    → (way : List NodeTurn)
+    × IsWay members (reached f keys start turns) way
+    × IsARun f keys start faulty (turns ++ way)
+    × ((one : Signed model.Request) → IsIn one (reached f keys start turns k).node.pending → IsServed start faulty members (reached f keys start (turns ++ way)) one)

@@ -1,10 +1,10 @@
 // What waits is executed, from every state. The bodies do nothing: what is said is the contracts.
-ghost use Rattle.bfs_liveness.specs.LawsOfProgress.{EachRequestIsExecuted, EachStateIsServed, MembersGetReady, WhatWaitsIsServed};
+ghost use Rattle.bfs_liveness.specs.LawsOfProgress.{EachRequestIsExecuted, EachStateIsServed, MembersGetReady, WhatWaitsAtOneIsExecuted, WhatWaitsIsServed};
 
 use crate::catching::members_come_up;
 use crate::executing::what_waits_is_executed;
 use crate::marks::what_is_stable_was_executed;
-use crate::meeting::{members_meet, ways_are_runs};
+use crate::meeting::{members_meet, members_meet_in, ways_are_runs};
 use crate::window::full_windows_go_on;
 use bfs_nodes_agree::node_calls::laws::{nodes_agree, steps_are_turns};
 
@@ -45,6 +45,20 @@ pub fn each_request_is_executed()
     ensures { EachRequestIsExecuted }
 {
     each_state_is_served();
+    steps_are_turns();
+    nodes_agree();
+}
+
+/// And so it is with what waits at one member alone, whichever: in a view that this one leads they meet.
+pub fn what_waits_at_one_is_executed()
+    ensures { WhatWaitsAtOneIsExecuted }
+{
+    members_meet_in();
+    ways_are_runs();
+    members_come_up();
+    what_is_stable_was_executed();
+    full_windows_go_on();
+    what_waits_is_executed();
     steps_are_turns();
     nodes_agree();
 }
