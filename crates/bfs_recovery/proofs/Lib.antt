@@ -4,4 +4,3 @@ pub mod Holders
 pub mod Holding
 pub mod Journals
 pub mod Lives
-mod Saying
