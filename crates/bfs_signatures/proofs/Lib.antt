@@ -1,0 +1,2 @@
+mod Climbing
+pub mod Alike

@@ -1,0 +1,5 @@
+-- What the contracts of bfs_signatures cite: hashes of a tree over texts (Hashes), signatures of one text as bytes (Signature), what is signed of many texts
+-- (Signing), and laws (Laws).
+pub mod Hashes
+pub mod Signature
+pub mod Laws
