@@ -1,2 +1,6 @@
 mod Climbing
 pub mod Alike
+mod Places
+mod Heights
+mod Joined
+mod Kept

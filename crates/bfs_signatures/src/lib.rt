@@ -4,8 +4,11 @@
 
 mod hashes;
 mod laws;
+mod signing;
+mod tree;
 mod verifying;
 
 pub use hashes::{leaf_hash, leaf_hasher};
 pub use laws::passes_like;
+pub use signing::sign_all;
 pub use verifying::{MOST_HEIGHT, root_of, root_signature_of, verify_leaf};
