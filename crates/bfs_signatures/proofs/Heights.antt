@@ -1,5 +1,5 @@
 -- The least height of a tree.
-use Rattle.std.proofs.Common.{◌≡◌, ◌≤◌, ◌<◌, ◌^◌, inl, inr, ℕ, zero, suc, true, false, refl, ap, ◌∙◌, arith}
+use Rattle.std.proofs.Common.{◌≡◌, ◌≤◌, ◌<◌, ◌^◌, inl, inr, ℕ, zero, suc, refl, ap, ◌∙◌, arith}
 use Rattle.std.specs.Prelude.{nat_lt}
 use Rattle.std.proofs.lemmas.Bool.{cases_lt, cond-false, cond-true, le-ltb, lt-ltb}
 use Rattle.std.proofs.Math.Pow.{pow_mono}
@@ -22,15 +22,15 @@ pub least_is : (most count height : ℕ) → height ≤ most → count ≤ 2 ^ h
 least_is zero count height few room least = least_none count ∙ omega (arith, few)
 least_is (suc n) count height few room least = elim (cases_lt (2 ^ n) count) [
   | inl more ↦ elim (cases_lt n height) [
-      | inl above ↦ too_low n count more ∙ omega (arith, few, above)
-      | inr within ↦
-          let less : 2 ^ height ≤ 2 ^ n = pow_mono within in
-          absurd (omega (arith, less, room, more))
-    ]
+    | inl above ↦ too_low n count more ∙ omega (arith, few, above)
+    | inr within ↦
+        let less : 2 ^ height ≤ 2 ^ n = pow_mono within in
+        absurd (omega (arith, less, room, more))
+  ]
   | inr enough ↦ elim (cases_lt n height) [
-      | inl above ↦ absurd (omega (arith, least n above, enough))
-      | inr within ↦ high n count enough ∙ least_is n count height within room least
-    ]
+    | inl above ↦ absurd (omega (arith, least n above, enough))
+    | inr within ↦ high n count enough ∙ least_is n count height within room least
+  ]
 ]
 
 -- it has room, and no lower one has

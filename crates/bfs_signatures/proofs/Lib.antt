@@ -4,3 +4,4 @@ mod Places
 mod Heights
 mod Joined
 mod Kept
+pub mod Signed

@@ -1,5 +1,5 @@
 -- Where the nodes of a tree stand.
-use Rattle.std.proofs.Common.{◌≡◌, ◌≤◌, ◌<◌, ◌+◌, ◌-◌, ◌*◌, ◌/◌, ◌%◌, ◌^◌, inl, inr, ℕ, suc, true, false, ap, sym, ◌∙◌, arith}
+use Rattle.std.proofs.Common.{◌≡◌, ◌≤◌, ◌<◌, ◌+◌, ◌-◌, ◌*◌, ◌/◌, ◌%◌, ◌^◌, inl, inr, ℕ, suc, true, false, ap, ◌∙◌, arith}
 use Rattle.std.specs.Prelude.{◌==◌}
 use Rattle.std.proofs.lemmas.Bool.{cases_Bool, cond-false, cond-true, eqb-false, eqb-true}
 use Rattle.std.proofs.lemmas.Nat.{div_below, pow-add, pow_pos}
@@ -8,7 +8,6 @@ use Rattle.std.proofs.Math.Pow.{pow_mono}
 use Rattle.lms.specs.Secrets.{sibling}
 use Rattle.bfs_signatures.specs.Signature.{most_height}
 use Rattle.bfs_signatures.specs.Nodes.{place_of}
-use Rattle.bfs_signatures.proofs.Climbing.{halved}
 
 -- a tree is not large
 pub width_fits : (height : ℕ) → height ≤ most_height → (0 < 2 ^ height) × (2 ^ height ≤ 4096)

@@ -130,11 +130,7 @@ fn padded(alloc: Global, leaves: &[[u8; 32]], height: u32) -> Result<Vec<[u8; 32
 }
 
 // the nodes of a tree over the leaves, level after level: above the leaves, the node behind so many others is over the two that stand at twice that number
-fn nodes_over(
-    alloc: Global,
-    leaves: &[[u8; 32]],
-    height: u32,
-) -> Result<Vec<[u8; 32]>, AllocError>
+fn nodes_over(alloc: Global, leaves: &[[u8; 32]], height: u32) -> Result<Vec<[u8; 32]>, AllocError>
     requires height { height ≤ most_height }
     requires room { length leaves.now ≤ 2 ^ height }
     ensures whole { IfOk result (λ nodes. length nodes.items ≡ node_count height) }

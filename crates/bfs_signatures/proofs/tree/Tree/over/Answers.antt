@@ -1,6 +1,6 @@
-use Rattle.std.proofs.Common.{◌≡◌, ◌≤◌, ◌^◌, ℕ, List, length, take, refl, sym, ap, ◌∙◌, subst, arith}
+use Rattle.std.proofs.Common.{◌≡◌, ◌^◌, ℕ, List, length, take, sym, ap, ◌∙◌, subst, arith}
 use Rattle.bfs_signatures.specs.Signature.{most_height}
-use Rattle.bfs_signatures.specs.Signing.{height_of, least_height}
+use Rattle.bfs_signatures.specs.Signing.{height_of}
 use Rattle.bfs_signatures.specs.Nodes.{HasNodes}
 use Rattle.bfs_signatures.proofs.Heights.{is_least}
 use Rattle.bfs_signatures.proofs.tree.Tree.over.Goals as goal

@@ -1,9 +1,9 @@
-use Rattle.std.proofs.Common.{◌≡◌, ◌≤◌, ◌<◌, ◌+◌, ◌-◌, ◌*◌, ◌/◌, ◌%◌, ◌^◌, ℕ, List, [], ◌++◌, length, take, sym, ap, ◌∙◌, arith, length-take}
+use Rattle.std.proofs.Common.{◌≡◌, ◌≤◌, ◌<◌, ◌+◌, ◌-◌, ◌*◌, ◌/◌, ◌^◌, ℕ, List, [], ◌++◌, length, take, sym, ap, ◌∙◌, arith, length-take}
 use Rattle.std.proofs.lemmas.List.{append-nil, get_or_read}
 use Rattle.std.specs.Prelude.{slice_index_or}
 use Rattle.lms.specs.Secrets.{sibling}
 use Rattle.lms.specs.Chains.{joined}
-use Rattle.bfs_signatures.specs.Signing.{beside, height_of, node}
+use Rattle.bfs_signatures.specs.Signing.{beside, node}
 use Rattle.bfs_signatures.specs.Nodes.{place_of}
 use Rattle.bfs_signatures.proofs.Climbing.{halved}
 use Rattle.bfs_signatures.proofs.Joined.{joined_more, joined_none}
