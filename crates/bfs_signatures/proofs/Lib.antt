@@ -5,3 +5,4 @@ mod Heights
 mod Joined
 mod Kept
 pub mod Signed
+pub mod Telling

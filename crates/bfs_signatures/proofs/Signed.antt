@@ -36,7 +36,7 @@ leaf_long [] number = refl
 leaf_long (text ∷ texts) zero = length-sha256 _
 leaf_long (text ∷ texts) (suc n) = leaf_long texts n
 
-node_long : (texts : List (List ℕ)) (level number : ℕ) → length (node (map leaf_hash texts) level number) ≡ 32
+pub node_long : (texts : List (List ℕ)) (level number : ℕ) → length (node (map leaf_hash texts) level number) ≡ 32
 node_long texts zero number = ap length (node_zero (map leaf_hash texts) number) ∙ leaf_long texts number
 node_long texts (suc n) number = ap length (node_inner (map leaf_hash texts) n number) ∙ length-sha256 _
 

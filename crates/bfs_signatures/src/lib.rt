@@ -9,6 +9,6 @@ mod tree;
 mod verifying;
 
 pub use hashes::{leaf_hash, leaf_hasher};
-pub use laws::{height_is_least, passes_like, what_is_signed_verifies};
+pub use laws::{a_root_tells_its_texts, height_is_least, passes_like, what_is_signed_verifies};
 pub use signing::sign_all;
 pub use verifying::{MOST_TEXTS, root_of, root_signature_of, verify_leaf};
