@@ -18,8 +18,8 @@ pub fn height_is_least()
     ensures { HeightIsLeast }
 {}
 
-/// Where no two of what is hashed have one hash, a signature that tells the root of a tree is of one of the tree's texts, and of the one that its number says: who signs a
-/// root signs no other text.
+/// Where no two of what is hashed have one hash, a signature that tells the root of a tree is of the text among the tree's that its number says: who signs a root
+/// signs no other text.
 #[tactic(auto, using(crate::proofs::Telling::root_tells_texts))]
 pub fn a_root_tells_its_texts()
     ensures { RootTellsTexts }

@@ -1,5 +1,5 @@
-//! One signature for all texts of a turn: the texts are leaves of a tree of hashes (RFC 9162 section 2.1), whose root is signed once (`lms`). Each text's signature holds the way
-//! from its leaf to the root, so that it is checked alone. Checking takes no memory.
+//! One signature for all texts of a turn: they are leaves of a tree of hashes (RFC 9162 section 2.1), whose root is signed once (`lms`). Each text's signature holds
+//! the way from its leaf to the root, so that it is checked alone. Checking takes no memory.
 #![tactic(auto)]
 
 mod hashes;
