@@ -9,7 +9,7 @@ use Rattle.std.proofs.lemmas.Slice.Eq.{bytes_eq-Decides}
 use Rattle.bfs_auth.proofs.Numbered.{made_at, none_at}
 use Rattle.bfs_auth.specs.Hmac.{hmac_sha256}
 use Rattle.bfs_auth.specs.Keys.{Keys, clients_known, key_from_to, keys_of, public_key_of, shared_keys, shared_with}
-use Rattle.bfs_auth.specs.Authenticators.{entry_for, is_hash, is_signed_by, passes, passes_by, signature, signature_in}
+use Rattle.bfs_auth.specs.Authenticators.{entry_for, is_hash, is_right, is_signed_by, passes, signature, signature_in}
 use Rattle.bfs_auth.specs.Laws.{OnlyTheSendersHashPasses, PassesAtAllOrAtNone, PassesAtClients, PassesAtReplicas}
 use Rattle.bfs_auth.specs.declared.authenticators.Authenticator.{Authenticator}
 use Rattle.bfs_auth.specs.declared.authenticators.Authenticator.TheVariants.{Hashes}
@@ -37,7 +37,8 @@ hashed : (secret : List ℕ) (me sender : Principal) (replicas clients : ℕ) (t
 unfolding passes
 hashed secret me (Replica number) replicas clients text auth = refl
 hashed secret me (Client number) replicas clients text auth =
-    ap (λ (key : Option (List ℕ)). passes_by key (keys_of secret me replicas clients) (Client number) text auth) (slice_get_past [] number (omega arith))
+    let keys = keys_of secret me replicas clients in
+    ap (λ (key : Option (List ℕ)). is_right key (shared_with keys (Client number)) text (entry_for me auth) (signature_in auth)) (slice_get_past [] number (omega arith))
 
 pub only_the_senders : OnlyTheSendersHashPasses
 only_the_senders secret me (Replica number) replicas clients text auth =
@@ -72,7 +73,8 @@ at_clients secret sender receiver replicas clients text auth there signed =
 by_public_key : (keys : Keys) (sender : Principal) (public_key text : List ℕ) (auth : Authenticator) → public_key_of keys sender ≡ Some public_key
     → passes keys sender text auth ≡ is_signed_by public_key text (signature_in auth)
 unfolding passes
-by_public_key keys sender public_key text auth known = ap (λ (key : Option (List ℕ)). passes_by key keys sender text auth) known
+by_public_key keys sender public_key text auth known =
+    ap (λ (key : Option (List ℕ)). is_right key (shared_with keys sender) text (entry_for keys.me auth) (signature_in auth)) known
 
 pub at_all_or_at_none : PassesAtAllOrAtNone
 at_all_or_at_none one other sender public_key text auth known also =

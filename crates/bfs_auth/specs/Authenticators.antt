@@ -54,12 +54,12 @@ abbrev pub is_signed_by : (public_key text : List ℕ) → Option (List ℕ) →
 is_signed_by public_key text (Some bytes) = is_signature public_key text bytes
 is_signed_by public_key text None = false
 
--- by the sender's public key, where there is one, else by the keys that receiver and sender share
-abbrev pub passes_by : Option (List ℕ) → Keys → (sender : Principal) → (text : List ℕ) → Authenticator → Bool
-passes_by (Some public_key) keys sender text auth = is_signed_by public_key text (signature_in auth)
-passes_by None keys sender text auth = is_hash (shared_with keys sender) text (entry_for keys.me auth)
+-- what is read of an authenticator is right for a text: by the sender's public key, where there is one, else by the keys that receiver and sender share
+abbrev pub is_right : (public_key : Option (List ℕ)) → Option SharedKeys → (text : List ℕ) → (entry signature : Option (List ℕ)) → Bool
+is_right (Some public_key) shared text entry signature = is_signed_by public_key text signature
+is_right None shared text entry signature = is_hash shared text entry
 
 -- Whether it is the sender's for the text. Where the sender has a public key: it is a signature of the text by that. Where it has none: the receiver's own
 -- entry is the text's keyed hash under the key from the sender to the receiver.
 unfoldable pub passes : Keys → (sender : Principal) → (text : List ℕ) → Authenticator → Bool
-passes keys sender text auth = passes_by (public_key_of keys sender) keys sender text auth
+passes keys sender text auth = is_right (public_key_of keys sender) (shared_with keys sender) text (entry_for keys.me auth) (signature_in auth)
