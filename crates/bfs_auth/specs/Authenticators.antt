@@ -36,6 +36,11 @@ abbrev pub signature_in : Authenticator → Option (List ℕ)
 signature_in (Hashes entries) = None
 signature_in (Signature bytes) = Some bytes
 
+-- about how many bytes are hashed to check it, beside the text: a signature has some thousand steps of chains, of a block of 64 bytes each
+abbrev pub bytes_to_hash : Authenticator → ℕ
+bytes_to_hash (Hashes entries) = 0
+bytes_to_hash (Signature bytes) = 262144
+
 abbrev pub entry_at : (receiver : Principal) → List (List ℕ) → Option (List ℕ)
 entry_at (Replica number) entries = slice_get entries number
 entry_at (Client _) entries = slice_get entries 0

@@ -1,7 +1,7 @@
 ghost use Rattle.std.specs.Prelude.{◌≡◌, ◌<◌, ◌≤◌, [], ◌∷◌, ◌++◌, length, IfOk, IfSome, OnOk, OnErr};
 ghost use Rattle.std.specs.Option.{option_map};
 ghost use Rattle.bfs_model.specs.Server.Limits.{most_replicas};
-ghost use Rattle.bfs_auth.specs.Authenticators.{AreHashes, entries_of, entry_at, entry_for, signature_in};
+ghost use Rattle.bfs_auth.specs.Authenticators.{AreHashes, bytes_to_hash, entries_of, entry_at, entry_for, signature_in};
 ghost use Rattle.bfs_auth.specs.Signatures.{most_signature_bytes};
 ghost use Rattle.bfs_auth.specs.declared.authenticators.Authenticator.TheVariants as auth;
 
@@ -143,6 +143,16 @@ impl Authenticator {
         match self {
             Authenticator::Hashes(hashes) => hashes.entry_for(receiver),
             Authenticator::Signature(_) => None,
+        }
+    }
+
+    /// About how many bytes are hashed to check it, beside the text, as `least_items` counts them.
+    pub fn bytes_to_hash(&self) -> usize
+        ensures { result ≡ bytes_to_hash self.now }
+    {
+        match self {
+            Authenticator::Hashes(_) => 0,
+            Authenticator::Signature(_) => 262_144,
         }
     }
 

@@ -74,7 +74,7 @@ fn are_all_signed(
 {
     requests
         .par_iter()
-        .with_min_len(least_items(requests, |signed| signed.message.call().len()))
+        .with_min_len(least_items(requests, bytes_to_hash))
         .all(
             rt,
             |signed: &Signed<Request>| -> bool
@@ -82,6 +82,10 @@ fn are_all_signed(
                 ensures { result ≡ request_is_signed keys.entry.now signed.now }
             { is_signed(keys, waiting, signed) },
         )
+}
+
+fn bytes_to_hash(signed: &Signed<Request>) -> usize {
+    signed.message.call().len() + signed.auth.bytes_to_hash()
 }
 
 fn is_signed(keys: &Keys, waiting: &PendingRequests, signed: &Signed<Request>) -> bool
