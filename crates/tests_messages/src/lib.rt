@@ -1,4 +1,8 @@
+<<<<<<< HEAD
 //! Settings, keys, keyed hashes, signatures, authenticators and the last replies, as tests whose expected values come from outside: the standards' own
+=======
+//! Settings, keys, signing keys, keyed hashes, authenticators and the last replies, as tests whose expected values come from outside: the standards' own
+>>>>>>> h2
 //! vectors, and hashes that Python's hmac made.
 #![tactic(auto)]
 
@@ -13,4 +17,8 @@ mod replies;
 #[cfg(test)]
 mod settings;
 #[cfg(test)]
+<<<<<<< HEAD
 mod signatures;
+=======
+mod signing_keys;
+>>>>>>> h2
