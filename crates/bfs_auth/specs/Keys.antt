@@ -1,5 +1,5 @@
 -- The keys that principals share: one for each direction between two.
-use Rattle.std.specs.Prelude.{ℕ, List, ◌++◌, map, Option, slice_get}
+use Rattle.std.specs.Prelude.{ℕ, List, [], ◌++◌, map, Option, None, slice_get}
 use Rattle.std.specs.List.{range_with_len}
 use Rattle.bfs_model.specs.Bytes.Items.{word}
 use Rattle.bfs_auth.specs.Hmac.{hmac_sha256}
@@ -17,11 +17,13 @@ key_from_to secret from to = hmac_sha256 secret (word (number_of from) ++ word (
 abbrev pub shared_keys : (secret : List ℕ) → (me other : Principal) → SharedKeys
 shared_keys secret me other = record { sending = key_from_to secret me other; receiving = key_from_to secret other me }
 
--- what one principal holds: the keys shared with each replica and with each client, by their numbers
+-- What one principal holds: the keys shared with each replica and with each client, and the public keys of clients, all by their numbers. A client that has a
+-- public key signs its requests.
 pub record Keys : Type 0 where
   pub me : Principal
   pub replicas : List SharedKeys
   pub clients : List SharedKeys
+  pub signers : List (List ℕ)
 
 -- a client shares keys with replicas alone
 abbrev pub clients_known : Principal → (clients : ℕ) → ℕ
@@ -33,6 +35,7 @@ keys_of secret me replicas clients = record {
   me = me;
   replicas = map (λ number. shared_keys secret me (Replica number)) (range_with_len 0 replicas);
   clients = map (λ number. shared_keys secret me (Client number)) (range_with_len 0 (clients_known me clients));
+  signers = [];
 }
 
 -- as one of the two was given them
@@ -41,8 +44,13 @@ shared_of pair = record { sending = pair.sending; receiving = pair.receiving }
 
 -- given for each replica and each client, by their numbers
 abbrev pub keys_from : (me : Principal) → (replicas clients : List Pair) → Keys
-keys_from me replicas clients = record { me = me; replicas = map shared_of replicas; clients = map shared_of clients }
+keys_from me replicas clients = record { me = me; replicas = map shared_of replicas; clients = map shared_of clients; signers = [] }
 
 abbrev pub shared_with : Keys → Principal → Option SharedKeys
 shared_with keys (Replica number) = slice_get keys.replicas number
 shared_with keys (Client number) = slice_get keys.clients number
+
+-- replicas have none
+abbrev pub public_key_of : Keys → Principal → Option (List ℕ)
+public_key_of keys (Replica number) = None
+public_key_of keys (Client number) = slice_get keys.signers number

@@ -1,4 +1,4 @@
-ghost use Rattle.bfs_auth.specs.Laws.{DerivedAreOfReplicas, OnlyTheSendersHashPasses, PassesAtClients, PassesAtReplicas};
+ghost use Rattle.bfs_auth.specs.Laws.{DerivedAreOfReplicas, OnlyTheSendersHashPasses, PassesAtAllOrAtNone, PassesAtClients, PassesAtReplicas};
 
 /// A text passes exactly where sender and receiver share keys and the receiver's own entry is the keyed hash under the key from
 /// the one to the other. The body is empty: what is said is its contract.
@@ -16,4 +16,9 @@ pub fn what_is_signed_passes()
 #[tactic(auto, using(crate::proofs::Numbered::as_many))]
 pub fn derived_keys_are_of_replicas()
     ensures { DerivedAreOfReplicas }
+{}
+
+/// What is claimed to be a client's passes at all who know its public key, or at none of them, whatever bytes it has.
+pub fn signed_passes_at_all_or_at_none()
+    ensures { PassesAtAllOrAtNone }
 {}

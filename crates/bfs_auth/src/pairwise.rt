@@ -4,12 +4,14 @@ ghost use Rattle.std.specs.Option.{option_map};
 ghost use Rattle.bfs_model.specs.Bytes.Items.{word};
 ghost use Rattle.bfs_model.specs.Server.Limits.{most_faults, most_replicas};
 ghost use Rattle.bfs_auth.specs.Principals.{first_client, number_of};
-ghost use Rattle.bfs_auth.specs.Keys.{clients_known, key_from_to, keys_from, keys_of, shared_keys, shared_of, shared_with};
+ghost use Rattle.bfs_auth.specs.Keys.{clients_known, key_from_to, keys_from, keys_of, public_key_of, shared_keys, shared_of, shared_with};
 ghost use Rattle.bfs_auth.specs.Replicas.{AreOfReplica};
+ghost use Rattle.lms.specs.Levels.{hss_public_key_bytes};
 
 use crate::keyed_hash::{HmacKey, hmac};
 use crate::principals::Principal;
 use bfs_types::Memory;
+use lms::HssPublicKey;
 use std::alloc::{AllocError, Global};
 use std::marker::Model;
 
@@ -30,22 +32,24 @@ pub struct SharedKeys {
 }
 
 /// The keys that one principal holds: a replica shares keys with all replicas, itself among them, and with all clients; a client
-/// shares keys with all replicas alone.
+/// shares keys with all replicas alone. Whoever knows public keys of clients takes nothing of those clients that isn't signed.
 #[derive(Drop)]
 pub struct Keys {
     me: Principal,
     replicas: Vec<SharedKeys>,
     clients: Vec<SharedKeys>,
+    signers: Vec<HssPublicKey>,
 }
 
 impl Model for Keys {
-    ghost use Rattle.std.specs.Prelude.{◌≤◌, length};
+    ghost use Rattle.std.specs.Prelude.{◌≤◌, length, map};
     ghost use Rattle.bfs_model.specs.Server.Limits.{most_replicas};
+    ghost use Rattle.lms.specs.Levels.{hss_public_key_bytes};
     ghost use Rattle.bfs_auth.specs.Keys as model;
 
     ghost Value = { model.Keys };
 
-    ghost view = { λ keys. record { me = keys.me; replicas = keys.replicas.items; clients = keys.clients.items } };
+    ghost view = { λ keys. record { me = keys.me; replicas = keys.replicas.items; clients = keys.clients.items; signers = map hss_public_key_bytes keys.signers.items } };
 
     ghost invariant = { λ keys. length keys.replicas.items ≤ most_replicas };
 }
@@ -75,6 +79,7 @@ impl Keys {
             me,
             replicas: shared_with_replicas(alloc, secret, me, replicas)?,
             clients: shared_with_clients(alloc, secret, me, clients)?,
+            signers: Vec::new(alloc),
         })
     }
 
@@ -94,7 +99,16 @@ impl Keys {
             me,
             replicas: shared_of_each(alloc, replicas)?,
             clients: shared_of_each(alloc, clients)?,
+            signers: Vec::new(alloc),
         })
+    }
+
+    /// The same keys, with the public keys of the clients who sign their requests, by their numbers: of those with none nothing is known but
+    /// what they share.
+    pub fn with_signers(self, signers: Vec<HssPublicKey>) -> Keys
+        ensures { result ≡ record self { signers = map hss_public_key_bytes signers.items } }
+    {
+        Keys { signers, ..self }
     }
 
     /// Whose keys they are.
@@ -151,6 +165,16 @@ impl Keys {
         ensures { slice_get self.now.clients client ≡ Some result.now }
     {
         &self.clients[client as usize]
+    }
+
+    /// The public key of a sender, if one is known; replicas have none.
+    pub(crate) fn public_key_of(&self, sender: Principal) -> Option<&HssPublicKey>
+        ensures { option_map (λ key. hss_public_key_bytes key.now) result ≡ public_key_of self.now sender }
+    {
+        match sender {
+            Principal::Replica(_) => None,
+            Principal::Client(number) => self.signers.get(number as usize),
+        }
     }
 
     // none where there are none

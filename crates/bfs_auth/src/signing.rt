@@ -1,7 +1,7 @@
 ghost use Rattle.std.specs.Prelude.{◌≡◌, ◌<◌, [], ◌∷◌, length, Some, IfOk};
 ghost use Rattle.bfs_auth.specs.Authenticators.{signature, signature_for_client};
 
-use crate::authenticators::Authenticator;
+use crate::authenticators::{Authenticator, KeyedHashes};
 use crate::pairwise::Keys;
 use crate::texts::Text;
 use bfs_types::Memory;
@@ -18,11 +18,11 @@ pub fn sign(alloc: Global, keys: &Keys, text: &[u8]) -> Result<Authenticator, Me
 pub fn sign_text<T: Text>(alloc: Global, keys: &Keys, text: &T) -> Result<Authenticator, Memory>
     ensures { IfOk result (λ auth. auth ≡ signature keys.now (T.text text.now)) }
 {
-    let mut auth = Authenticator::new(alloc);
+    let mut hashes = KeyedHashes::new(alloc);
     for shared in keys.shared_with_each_replica() {
-        auth.push(shared.sending.hash(text))?;
+        hashes.push(shared.sending.hash(text))?;
     }
-    Ok(auth)
+    Ok(Authenticator::Hashes(hashes))
 }
 
 /// The authenticator of a replica's text for one client: a single entry. `Memory` if memory runs out.
@@ -48,7 +48,7 @@ pub fn sign_text_for_client<T: Text>(
     requires { client < length keys.now.clients }
     ensures { IfOk result (λ auth. signature_for_client keys.now client (T.text text.now) ≡ Some auth) }
 {
-    let mut auth = Authenticator::new(alloc);
-    auth.push(keys.shared_with_client(client).sending.hash(text))?;
-    Ok(auth)
+    let mut hashes = KeyedHashes::new(alloc);
+    hashes.push(keys.shared_with_client(client).sending.hash(text))?;
+    Ok(Authenticator::Hashes(hashes))
 }

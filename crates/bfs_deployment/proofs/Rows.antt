@@ -78,8 +78,8 @@ pub row-no_patience : deployment_spelled (codes "patience = 0\n" ++ smallest) �
 unfolding deployment_on_literals
 row-no_patience = refl
 
--- a REQUEST of the most bytes has 17,400
-pub row-requests_cut : deployment_spelled (smallest ++ codes "[limits]\nrequest = 17399\n") ≡ Err (error.OutOfBounds (key.Limit kind.Request) 17400 4294967295)
+-- a REQUEST of the most bytes has 26,652
+pub row-requests_cut : deployment_spelled (smallest ++ codes "[limits]\nrequest = 26651\n") ≡ Err (error.OutOfBounds (key.Limit kind.Request) 26652 4294967295)
 unfolding deployment_on_literals
 row-requests_cut = refl
 

@@ -1,4 +1,4 @@
-// Which messages are signed: the receiver's own keyed hash is the sender's. Nothing here takes memory.
+// Which messages are signed: their authenticators pass, as the receiver sees it. Nothing here takes memory.
 ghost use Rattle.std.specs.Prelude.{◌≡◌, ◌++◌};
 ghost use Rattle.bfs_auth.specs.Authenticators.{passes};
 ghost use Rattle.bfs_model.specs.Bytes.Items.{word};

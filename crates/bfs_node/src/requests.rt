@@ -112,7 +112,7 @@ impl Node {
         ensures { IfOk result (λ found. IfSome found (λ batch. HasAll self.now messages.now (arc_value batch))) }
     {
         if self.order.proposal_refusal().is_some()
-            || messages.len() < least_items(messages, call_length)
+            || messages.len() < least_items(messages, bytes_to_hash)
             || messages.len() > MOST_REQUESTS - self.pending.len() as usize
         {
             return Ok(None);
@@ -191,7 +191,7 @@ fn are_signed<R: Threads + Sync>(
 {
     messages
         .par_iter()
-        .with_min_len(least_items(messages, call_length))
+        .with_min_len(least_items(messages, bytes_to_hash))
         .map(
             |signed: &Signed<Message>| -> bool
                 ensures { result ≡ is_signed keys.entry.now signed.now }
@@ -200,9 +200,10 @@ fn are_signed<R: Threads + Sync>(
         .collect(rt, alloc)
 }
 
-fn call_length(signed: &Signed<Message>) -> usize {
-    match &signed.message {
+fn bytes_to_hash(signed: &Signed<Message>) -> usize {
+    let call = match &signed.message {
         Message::Request(request) => request.call().len(),
         _ => 0,
-    }
+    };
+    call + signed.auth.bytes_to_hash()
 }

@@ -7,7 +7,7 @@ use Rattle.std.proofs.lemmas.List.Sums.{sum_by-cons}
 use Rattle.std.proofs.lemmas.Option.{slice_get_within}
 use Rattle.std.proofs.lemmas.Slice.Eq.{bytes_eq-Decides}
 use Rattle.bfs_votes.specs.Votes.{count_below}
-use Rattle.bfs_auth.specs.Authenticators.{entry_for, is_hash}
+use Rattle.bfs_auth.specs.Authenticators.{entry_for, is_hash, passes}
 use Rattle.bfs_auth.specs.Keys.{Keys}
 use Rattle.bfs_auth.specs.declared.pairwise.SharedKeys.{SharedKeys}
 use Rattle.bfs_messages.specs.Messages as model
@@ -206,6 +206,7 @@ agreed_so tally r e = go (find (is_agreed tally) tally.counted) refl e
 
 -- who shares a key with a client has a number among the replicas
 sender_below : (keys : Keys) (m : Signed Message) (reply : model.Reply) → m.message ≡ Reply reply → is_signed keys m ≡ true → reply.sender < length keys.replicas
+unfolding passes
 sender_below keys m reply is signed = go (slice_get keys.replicas reply.sender) refl (sym (ap (λ (x : Message). is_signed keys (record { message = x; auth = m.auth })) is) ∙ signed)
   where
     go : (o : Option SharedKeys) → slice_get keys.replicas reply.sender ≡ o → is_hash o (body_text (Reply reply)) (entry_for keys.me m.auth) ≡ true → reply.sender < length keys.replicas

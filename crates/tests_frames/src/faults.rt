@@ -78,8 +78,8 @@ static MORE: &[(&str, &str)] = &[
         "limits.view_change: it is no whole number",
     ),
     (
-        "[limits]\nrequest = 17399",
-        "limits.request: it is no number from 17400 to 4294967295",
+        "[limits]\nrequest = 26651",
+        "limits.request: it is no number from 26652 to 4294967295",
     ),
     (
         "[limits]\nlog = 4294967296",

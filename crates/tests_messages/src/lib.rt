@@ -1,4 +1,4 @@
-//! Settings, keys, keyed hashes, authenticators and the last replies, as tests whose expected values come from outside: the standards' own
+//! Settings, keys, keyed hashes, signatures, authenticators and the last replies, as tests whose expected values come from outside: the standards' own
 //! vectors, and hashes that Python's hmac made.
 #![tactic(auto)]
 
@@ -12,3 +12,5 @@ mod keys;
 mod replies;
 #[cfg(test)]
 mod settings;
+#[cfg(test)]
+mod signatures;
