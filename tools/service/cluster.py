@@ -5,10 +5,12 @@ import tomllib
 from pathlib import Path
 from typing import NamedTuple
 
+from service import signatures
+
 MOST_FAULTS, MOST_CLIENTS = 10, 1_024
 MOST_PATIENCE = 60_000  # milliseconds
 KEYS = "f", "clients", "replicas", "relay"
-OTHERS = "portmap", "patience", "limits"  # which may be missing; the last two are for replicas and relays alone
+OTHERS = "portmap", "patience", "signers", "limits"  # which may be missing; `patience` and `limits` are for replicas and relays alone
 MEBIBYTE = 1 << 20
 # the least limit of each kind of frame, in bytes, and the most; crates/bfs_deployment has them too
 LIMITS = {
@@ -47,13 +49,15 @@ class Address(NamedTuple):
 
 
 class Cluster(NamedTuple):
-    """At most `faults` of the replicas may fail; the relay is where kernels send their calls, and `portmap` where they may ask for its port."""
+    """At most `faults` of the replicas may fail; the relay is where kernels send their calls, and `portmap` where they may ask for its port. Signers are clients'
+    public keys, by the clients' numbers, or none."""
 
     faults: int
     clients: int
     replicas: tuple[Address, ...]
     relay: Address
     portmap: Address | None = None
+    signers: tuple[bytes, ...] = ()
 
 
 def address_in(text, key):
@@ -87,6 +91,19 @@ def check_limits(limits):
         number_in(limits, key, LIMITS[key], MOST_LIMIT, "limits.")
 
 
+def signers_in(texts, clients):
+    """A public key for each client; `parse_deployment` reads them likewise."""
+    if not isinstance(texts, list) or not all(isinstance(text, str) for text in texts):
+        raise Fault("signers: it is no array of texts")
+    for number, text in enumerate(texts):
+        # bytes.fromhex passes over spaces
+        if not re.fullmatch(r"[0-9A-Fa-f]{120}", text) or not signatures.is_public_key(bytes.fromhex(text)):
+            raise Fault(f"signers: that of client {number} is no public key")
+    if len(texts) != clients:
+        raise Fault(f"signers: there are to be {clients} of them")
+    return tuple(map(bytes.fromhex, texts))
+
+
 def cluster_in(document):
     """The cluster that a document describes; a fault names its key."""
     check_keys(document, KEYS + OTHERS)
@@ -106,8 +123,9 @@ def cluster_in(document):
         raise Fault("replicas: two of these addresses, or one of them and that of `relay` or `portmap`, are one")
     if "patience" in document:
         number_in(document, "patience", 1, MOST_PATIENCE)
+    signers = signers_in(document["signers"], clients) if "signers" in document else ()
     check_limits(document.get("limits", {}))
-    return Cluster(faults, clients, replicas, relay, portmap)
+    return Cluster(faults, clients, replicas, relay, portmap, signers)
 
 
 def read_cluster(folder):
@@ -125,4 +143,6 @@ def read_cluster(folder):
 def text_of(cluster):
     """The document that describes a cluster."""
     replicas = ", ".join(f'"{address}"' for address in cluster.replicas)
-    return f'f = {cluster.faults}\nclients = {cluster.clients}\nreplicas = [{replicas}]\nrelay = "{cluster.relay}" # NFS version 2 and MOUNT, by TCP and UDP\n'
+    signers = "\n".join(["signers = [", *(f'    "{key.hex()}",' for key in cluster.signers), "]\n"]) if cluster.signers else ""
+    relay = f'relay = "{cluster.relay}" # NFS version 2 and MOUNT, by TCP and UDP'
+    return f"f = {cluster.faults}\nclients = {cluster.clients}\nreplicas = [{replicas}]\n{relay}\n{signers}"

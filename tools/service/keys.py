@@ -1,11 +1,16 @@
 """The documents of a deployment: the public one, and a private one for each replica and client (docs/CLUSTER.md, "Keys"); and the folders of its replicas."""
 import os
 import secrets
+import tomllib
 from pathlib import Path
 
+from service import signatures
 from service.cluster import Address, Fault, cluster_in, reason, text_of
 
+SIGNED = False  # whether a relay signs for its clients where nothing is said: not before it can
 KEY = 32  # bytes
+LEVELS = 10, 10, 10  # heights of a signing key's trees: it signs 2^30 times
+HEIGHTS = 5, 10, 15  # which a tree may have
 
 
 def pair(sending, receiving):
@@ -34,6 +39,7 @@ def documents(cluster):
 
 
 COUNTER = "relay.counter"  # the relay's next timestamp
+SIGNING_KEY = "relay.key"
 NEW = "new"  # a file in a replica's folder that says that it has never run
 
 
@@ -46,6 +52,26 @@ def private(path):
     if mode & 0o077:
         raise Fault(f"{path}: others than its owner may read or write it (mode {mode:04o}): `chmod go= {path}`")
     return path
+
+
+def heights_in(text):
+    """The heights of trees for each level, first the first: numbers with commas between them."""
+    words = text.split(",")
+    if not 1 <= len(words) <= signatures.MOST_LEVELS or any(word not in map(str, HEIGHTS) for word in words):
+        raise Fault(f"--heights: {text!r} is no one to three of {', '.join(map(str, HEIGHTS))}, with commas between them")
+    return tuple(map(int, words))
+
+
+def signing_document(heights):
+    """The document of a new signing key (docs/CLUSTER.md, "Keys"), which `parse_signing_key` reads."""
+    identity, seed = secrets.token_hex(signatures.ID), secrets.token_hex(KEY)
+    return f'id = "{identity}"\nseed = "{seed}"\nheights = [{", ".join(map(str, heights))}]\n'
+
+
+def signing_key_in(document):
+    """The key that a document says."""
+    said = tomllib.loads(document)
+    return signatures.Key(bytes.fromhex(said["id"]), bytes.fromhex(said["seed"]), said["heights"])
 
 
 def write_new(path, text, mode):
@@ -68,13 +94,13 @@ def begin(folder):
         os.close(place)
 
 
-def make(folder, faults, clients, host, port, relay):
-    """Makes a deployment's documents in a folder that has none."""
+def make(folder, faults, clients, host, port, relay, heights=None):
+    """Makes a deployment's documents in a folder that has none; with heights its relay signs for all clients, by a key with trees of these heights."""
     texts = [str(Address(host, port + number)) for number in range(3 * faults + 1)]
     cluster = cluster_in({"f": faults, "clients": clients, "replicas": texts, "relay": relay})
     try:
         os.makedirs(folder, mode=0o700, exist_ok=True)
-        if old := sorted(path.name for path in Path(folder).iterdir() if path.suffix == ".toml" or path.name in (COUNTER, "replica-0")):
+        if old := sorted(path.name for path in Path(folder).iterdir() if path.suffix == ".toml" or path.name in (COUNTER, SIGNING_KEY, "replica-0")):
             raise Fault(f"{folder}: it has {old[0]}: nothing is written over")
         for number in range(len(cluster.replicas)):
             os.mkdir(f"{folder}/replica-{number}", mode=0o700)
@@ -82,6 +108,10 @@ def make(folder, faults, clients, host, port, relay):
         for name, text in documents(cluster):
             write_new(Path(folder, name), text, 0o600)
         write_new(Path(folder, COUNTER), "0\n", 0o600)
+        if heights:
+            document = signing_document(heights)
+            write_new(Path(folder, SIGNING_KEY), document, 0o600)
+            cluster = cluster._replace(signers=(signing_key_in(document).public_key,) * clients)
         write_new(Path(folder, "cluster.toml"), text_of(cluster), 0o644)
     except OSError as fault:
         raise Fault(f"{folder}: {reason(fault)}") from None

@@ -1,4 +1,4 @@
-//! Settings, keys, keyed hashes, signatures, authenticators and the last replies, as tests whose expected values come from outside: the standards' own
+//! Settings, keys, signing keys, keyed hashes, signatures, authenticators and the last replies, as tests whose expected values come from outside: the standards' own
 //! vectors, and hashes that Python's hmac made.
 #![tactic(auto)]
 
@@ -14,3 +14,5 @@ mod replies;
 mod settings;
 #[cfg(test)]
 mod signatures;
+#[cfg(test)]
+mod signing_keys;

@@ -1,11 +1,14 @@
 """Checks of the documents that `tools/bfs keys` makes, and of what is refused."""
 import stat
 import subprocess
+import sys
 import tomllib
 from pathlib import Path
 
-from service.cluster import LIMITS, Address, Cluster, cluster_in
-from service.programs import TRANSPORT
+from service import signatures
+from service.cluster import LIMITS, Address, Cluster, cluster_in, read_cluster
+from service.keys import SIGNING_KEY, signing_key_in
+from service.programs import TOP, TRANSPORT
 from service.testing.running import check
 
 
@@ -25,6 +28,43 @@ def pairs(service):
     folders = [Path(service.folder, f"replica-{number}") for number in range(4)]
     check(all(stat.S_IMODE(folder.stat().st_mode) == 0o700 and [each.name for each in folder.iterdir()] == ["new"] for folder in folders), "folders")
     check(Path(service.folder, "relay.counter").read_text() == "0\n", "the relay's first timestamp is another")
+    check(not Path(service.folder, SIGNING_KEY).exists() and not read_cluster(service.folder).signers, "a relay signs that wasn't asked to")
+
+
+def signed(service):
+    """A relay that signs has a private key, new each time, whose public key cluster.toml has for each client; and its signatures pass for that."""
+    folders = [f"{service.folder}-signed-{each}" for each in range(2)]
+    for folder in folders:
+        said, status = service.bfs("keys", folder, "--f", "0", "--clients", "3", "--heights", "5,5")
+        check(status == 0 and SIGNING_KEY in said, said)
+        path, cluster = Path(folder, SIGNING_KEY), read_cluster(folder)
+        check(stat.S_IMODE(path.stat().st_mode) == 0o600, "the signing key isn't private")
+        key = signing_key_in(path.read_text())
+        check(cluster.signers == (key.public_key,) * 3, "the signers are others")
+        texts = [b"a", b"b", b"c"]
+        made = signatures.sign_texts(key, 31, texts)
+        check(all(signatures.verify_text(cluster.signers[0], text, each) for text, each in zip(texts, made)), "a signature doesn't pass")
+        check(not signatures.verify_text(cluster.signers[0], b"d", made[0]), "another text passes")
+    one, other = (Path(folder, SIGNING_KEY).read_text() for folder in folders)
+    check(not set(one.splitlines()[:2]) & set(other.splitlines()), "two keys have one id or seed")
+    said, status = service.bfs("keys", folders[0], "--heights", "5,5")
+    check(status == 1 and "nothing is written over" in said and Path(folders[0], SIGNING_KEY).read_text() == one, said)
+    for words, told in (
+        (["--heights", "5,6"], "--heights: '5,6' is no one to three of 5, 10, 15"),
+        (["--heights", "5,5,5,5"], "--heights: '5,5,5,5' is no one to three"),
+        (["--heights", ""], "--heights: '' is no one to three"),
+        (["--heights", "5", "--unsigned"], "--unsigned: a relay that signs nothing"),
+    ):
+        said, status = service.bfs("keys", f"{service.folder}-none", *words)
+        check(status == 1 and told in said and said.count("\n") == 1 and not Path(f"{service.folder}-none").exists(), said)
+    said, status = service.bfs("keys", f"{service.folder}-none", "--f", "0", "--clients", "1", "--unsigned")
+    check(status == 0 and SIGNING_KEY not in said and not read_cluster(f"{service.folder}-none").signers, said)
+
+
+def others(_service):
+    """The signatures that Bouncy Castle made are made and pass, and what is changed doesn't."""
+    tested = subprocess.run([sys.executable, TOP / "tools/service/signatures.py"], stdout=subprocess.PIPE, stderr=subprocess.STDOUT, text=True)
+    check(tested.returncode == 0 and tested.stdout == "ok\n", tested.stdout[-2_000:])
 
 
 def refusals(service):
@@ -67,6 +107,11 @@ def faults_of_cluster(service):
         ("clients = 8", "clients = 8\nmore = 1", "more: there is no such key"),
         ("portmap = ", "portmap = 111 #", "portmap: 111 is no HOST:PORT"),
         ("clients = 8", "clients = 8\npatience = 0", "patience: 0 is no number from 1 to 60000"),
+        ("clients = 8", "clients = 8\nsigners = 1", "signers: it is no array of texts"),
+        ("clients = 8", "clients = 8\nsigners = [1]", "signers: it is no array of texts"),
+        ("clients = 8", "clients = 8\nsigners = ['00']", "signers: that of client 0 is no public key"),
+        ("clients = 8", f"clients = 8\nsigners = ['{' 00' * 60}']", "signers: that of client 0 is no public key"),
+        ("clients = 8", "clients = 8\nsigners = []", "signers: there are to be 8 of them"),
         ("clients = 8", "clients = 8\nlimits = 1", "limits: 1 is no table"),
         ("clients = 8", "clients = 8\nlimits.orders = 1", "limits.orders: there is no such key"),
         ("clients = 8", "clients = 8\nlimits.request = 17399", "limits.request: 17399 is no number from 17400 to 4294967295"),

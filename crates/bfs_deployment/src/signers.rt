@@ -1,0 +1,80 @@
+ghost use Rattle.std.specs.Prelude.{◌≡◌, [], IfOk, length};
+ghost use Rattle.toml.specs.Data.{get_member};
+ghost use Rattle.toml.specs.View.{items_view, table_view, view};
+ghost use Rattle.bfs_deployment.specs.Deployment.{OneEach};
+ghost use Rattle.bfs_deployment.specs.Keys.{name_of};
+ghost use Rattle.bfs_deployment.specs.Outcomes.{Gives};
+ghost use Rattle.bfs_deployment.specs.Signers.{public_key_spelled, signer_in, signers_in, signers_of};
+ghost use Rattle.bfs_deployment.specs.Tables.{said_or};
+ghost use Rattle.bfs_deployment.specs.declared.key.Key.TheVariants as key;
+
+use crate::error::DeploymentError;
+use crate::key::Key;
+use crate::tables::value_at;
+use hex::FromHex;
+use lms::HssPublicKey;
+use std::alloc::Global;
+use toml::{Table, Value};
+
+fn public_key_spelled(text: &str) -> Option<HssPublicKey>
+    ensures { result ≡ public_key_spelled text.now }
+{
+    let bytes = <[u8; 60]>::from_hex(text).ok()?;
+    HssPublicKey::from_bytes(&bytes)
+}
+
+fn signer_in(value: &Value) -> Result<HssPublicKey, DeploymentError>
+    ensures { result ≡ signer_in (view value.now) }
+{
+    let text = value
+        .as_str()
+        .ok_or(DeploymentError::WrongType(Key::Signers))?;
+    public_key_spelled(text).ok_or(DeploymentError::NoPublicKey(Key::Signers))
+}
+
+fn signers_of(alloc: Global, values: &[Value]) -> Result<Vec<HssPublicKey>, DeploymentError>
+    ensures { Gives (λ signers. signers.items) result (signers_of (items_view values.now)) }
+{
+    let mut signers = Vec::new(alloc);
+    for value in values {
+        signers.push(signer_in(value)?)?;
+    }
+    Ok(signers)
+}
+
+fn signers_in(
+    alloc: Global,
+    value: &Value,
+    clients: u32,
+) -> Result<Vec<HssPublicKey>, DeploymentError>
+    ensures value { Gives (λ signers. signers.items) result (signers_in clients (view value.now)) }
+    ensures count { IfOk result (λ signers. length signers.items ≡ clients) }
+{
+    let values = value
+        .as_array()
+        .ok_or(DeploymentError::WrongType(Key::Signers))?;
+    let signers = signers_of(alloc, values.as_slice())?;
+    if signers.len() == clients as usize {
+        Ok(signers)
+    } else {
+        Err(DeploymentError::WrongCount {
+            key: Key::Signers,
+            count: clients,
+        })
+    }
+}
+
+/// The public keys that a document says, one for each client, or none.
+pub fn signers_at(
+    alloc: Global,
+    table: &Table,
+    clients: u32,
+) -> Result<Vec<HssPublicKey>, DeploymentError>
+    ensures value { Gives (λ signers. signers.items) result (said_or [] (signers_in clients) (get_member (name_of key.Signers) (table_view table.now))) }
+    ensures count { IfOk result (λ signers. OneEach clients (length signers.items)) }
+{
+    match value_at(table, Key::Signers) {
+        Some(value) => signers_in(alloc, value, clients),
+        None => Ok(Vec::new(alloc)),
+    }
+}
