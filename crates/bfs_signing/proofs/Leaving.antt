@@ -10,6 +10,7 @@ use Rattle.lms.specs.Signers.{HssKey}
 use Rattle.bfs_signatures.specs.Hashes.{leaf_hash}
 use Rattle.bfs_signatures.specs.Laws.{SignedTextsVerify}
 use Rattle.bfs_signatures.specs.Signing.{signatures_of}
+use Rattle.bfs_auth.specs.Signatures.{most_signature_bytes}
 use Rattle.bfs_clients.specs.Clients.{Clients}
 use Rattle.bfs_codec.specs.Reading.{message_of}
 use Rattle.bfs_filter.specs.Runs.{Exchange, TakesAll}
@@ -24,11 +25,11 @@ use Rattle.bfs_relay.specs.GivenKeys.{clients_with, counter_for}
 use Rattle.bfs_relay.specs.Origins.{Came, HasOrigin, HasOriginTo, IsRequest, WhatIsToldHasItsOrigin, told_in}
 use Rattle.bfs_relay.specs.Relays.{Relay}
 use Rattle.bfs_relay.specs.Turns.{turned}
-use Rattle.bfs_relaying.proofs.Rising.{told_of}
+use Rattle.bfs_relaying.proofs.Public.{told_of}
 use Rattle.bfs_signing.specs.Indexes.{HasIndex, Use, is_low, low_told, next_after, uses_of, warnings}
 use Rattle.bfs_signing.specs.Lives.{begun_in, turns_of, uses_from, uses_in}
 use Rattle.bfs_signing.specs.Origins.{IsKey, IsSignedBy, IsSignedRequest, Leaves, WhatLeavesIsSigned}
-use Rattle.bfs_signing.specs.Requests.{Replaced, most_signature_bytes, most_texts, none_replaced, replaced_also, replaced_with, request_with, signed_texts, signed_told, text_in, texts_told, told_with, with_signature}
+use Rattle.bfs_signing.specs.Requests.{Replaced, most_texts, none_replaced, replaced_also, replaced_with, request_with, signed_texts, signed_told, text_in, texts_told, told_with, with_signature}
 use Rattle.bfs_signing.specs.Signing.{Signing, Signs}
 use Rattle.bfs_signing.proofs.Fitting.{AreFew, given_few, request_spelled}
 

@@ -5,6 +5,8 @@ use Rattle.std.specs.Option.{option_map}
 use Rattle.lms.specs.Signers.{HssKey}
 use Rattle.bfs_signatures.specs.Signature.{most_height}
 use Rattle.bfs_signatures.specs.Signing.{signatures_of}
+use Rattle.bfs_auth.specs.Signatures.{most_signature_bytes}
+use Rattle.bfs_auth.specs.declared.authenticators.Authenticator.TheVariants.{Signature}
 use Rattle.bfs_messages.specs.Spelling.{body_text, signed_text}
 use Rattle.bfs_messages.specs.declared.message.Message.{Message}
 use Rattle.bfs_messages.specs.declared.signed.Signed.{Signed}
@@ -41,11 +43,8 @@ signed_texts told = take most_texts (texts_told told)
 
 -- Signatures in the place of keyed hashes ---------------------------------------------------------------------------------
 
-abbrev pub most_signature_bytes : ℕ
-most_signature_bytes = 10240
-
 abbrev pub with_signature : Signed Message → (signature : List ℕ) → Signed Message
-with_signature signed signature = record { message = signed.message; auth = [] }
+with_signature signed signature = record { message = signed.message; auth = Signature signature }
 
 -- a signature that is longer than replicas read is told to nobody
 abbrev pub request_with : Signed Message → (signature : List ℕ) → Told → List Told

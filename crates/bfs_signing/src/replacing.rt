@@ -1,21 +1,19 @@
 // Signatures in the place of keyed hashes.
 ghost use Rattle.std.specs.Prelude.{◌≡◌, ◌≤◌, ◌+◌, ◌++◌, length, map, slice_get, IfOk, OnOk};
+ghost use Rattle.bfs_auth.specs.Signatures.{most_signature_bytes};
 ghost use Rattle.bfs_messages.specs.Spelling.{signed_text};
 ghost use Rattle.bfs_codec.specs.Reading.{message_of};
 ghost use Rattle.bfs_frames.specs.Parcels.{told_by};
 ghost use Rattle.bfs_signing.specs.Requests as model;
 
 use crate::requests::{goes_to_replicas, message_of};
-use bfs_auth::Authenticator;
+use bfs_auth::{Authenticator, MOST_SIGNATURE_BYTES};
 use bfs_codec::encode;
 use bfs_frames::{Frame, Parcel};
 use bfs_messages::{Message, Signed};
 use bfs_types::Memory;
 use std::alloc::Global;
 use std::marker::Model;
-
-// how many bytes of a signature replicas read
-const MOST_SIGNATURE_BYTES: usize = 10_240;
 
 /// What is told so far, and how many signatures are in it.
 #[derive(Drop)]
@@ -90,12 +88,12 @@ impl Replaced {
 }
 
 fn text_with(alloc: Global, signed: Signed<Message>, signature: &[u8]) -> Result<Vec<u8>, Memory>
-    requires { length signature.now ≤ model.most_signature_bytes }
+    requires { length signature.now ≤ most_signature_bytes }
     ensures { IfOk result (λ text. text.items ≡ signed_text (model.with_signature signed signature.now)) }
 {
     let signed = Signed {
         message: signed.message,
-        auth: Authenticator::new(alloc),
+        auth: Authenticator::of_signature(alloc, signature)?,
     };
     encode(alloc, &signed)
 }
