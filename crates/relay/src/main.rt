@@ -90,8 +90,10 @@ fn run<R: Runtime + AllocGlobal + Threads + Wait + Sync>(rt: &R) -> Result<(), E
     let Some(files) = files_in(&words) else {
         return Err(Error::msg(USAGE));
     };
-    let deployment =
-        deployment_at(rt, files.cluster).context(String::from_str(alloc, files.cluster)?)?;
+    let deployment = deployment_at(rt, files.cluster).context(String::from_str(
+        alloc,
+        files.cluster,
+    )?)?;
     let keys = all_keys(rt, &deployment, files.clients)?;
     match files.signing {
         Some(signing) => sign_for(rt, &deployment, files.counter, signing, keys),
@@ -114,9 +116,7 @@ fn speak_for<R: Runtime + AllocGlobal + Threads + Wait + Sync>(
     keys: Vec<Keys>,
 ) -> Result<(), Error> {
     if !deployment.signers().is_empty() {
-        return Err(Error::msg(
-            "the cluster's clients sign their requests: --key is missing",
-        ));
+        return Err(Error::msg("the cluster's clients sign their requests: --key is missing"));
     }
     let store = counter_at(rt, counter)?;
     let mut relay = Reserving::of_keys(rt.alloc(), deployment.f(), keys, store)?;
@@ -132,8 +132,9 @@ fn sign_for<R: Runtime + AllocGlobal + Threads + Wait + Sync>(
     keys: Vec<Keys>,
 ) -> Result<(), Error> {
     let alloc = rt.alloc();
-    let signer = signer_at(rt, deployment, &keys, files.key)
-        .context(String::from_str(alloc, files.key)?)?;
+    let signer = signer_at(rt, deployment, &keys, files.key).context(String::from_str(
+        alloc, files.key,
+    )?)?;
     let indexes = counter_at(rt, files.indexes)?;
     let store = counter_at(rt, counter)?;
     let relay = Reserving::of_keys(alloc, deployment.f(), keys, store)?;

@@ -17,10 +17,7 @@ pub(crate) fn signer_at<R: Runtime + AllocGlobal>(
     let key = parse_signing_key(rt.alloc(), document.as_slice())?;
     let signer = Signer::new(rt.alloc(), key.first, key.below.as_slice())?;
     let public_key = signer.public_key();
-    if !keys
-        .iter()
-        .all(|keys| signs_for(deployment.signers(), keys.me(), public_key))
-    {
+    if !keys.iter().all(|keys| signs_for(deployment.signers(), keys.me(), public_key)) {
         return Err(Error::msg("it is not the key by which the cluster's clients sign"));
     }
     Ok(signer)
