@@ -24,8 +24,8 @@ pub fn verify_leaf(public_key: &[u8], leaf: &[u8; 32], signature: &[u8]) -> bool
         )
 }
 
-/// The root that a signature of the text with that leaf tells, whether or not it is signed. `None` where no key has such a signature: it is too short, of a higher tree than
-/// `MOST_TEXTS`, or of a leaf that the tree has not.
+/// The root that a signature of the text with that leaf tells, whether or not the root is signed. `None` where it is malformed: too short, of a tree with room for more
+/// than `MOST_TEXTS`, or of a leaf that the tree has not.
 pub fn root_of(leaf: &[u8; 32], signature: &[u8]) -> Option<[u8; 32]>
     ensures { result ≡ root_of leaf.now signature.now }
 {

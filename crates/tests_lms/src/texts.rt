@@ -1,8 +1,8 @@
 //! Signatures of several texts at once: roots that others computed, and signatures that were changed.
 use crate::vectors::signer;
 use bfs_signatures::{
-    MOST_TEXTS, height_is_least, leaf_hash, leaf_hasher, passes_like, root_of, root_signature_of,
-    sign_all, verify_leaf, what_is_signed_verifies,
+    MOST_TEXTS, a_root_tells_its_texts, height_is_least, leaf_hash, leaf_hasher, passes_like,
+    root_of, root_signature_of, sign_all, verify_leaf, what_is_signed_verifies,
 };
 use lms::{LmsType, OtsType, PrivateKey, SignError, hss_verify};
 use sha2::{Digest, Sha256};
@@ -299,4 +299,5 @@ fn laws_of_texts_have_no_body() {
     passes_like();
     what_is_signed_verifies();
     height_is_least();
+    a_root_tells_its_texts();
 }
