@@ -1,5 +1,5 @@
 -- A text's signature, by the root that it tells and the signature of that.
-use Rattle.std.proofs.Common.{◌≡◌, ℕ, Bool, true, false, List, Option, Some, None, refl}
+use Rattle.std.proofs.Common.{◌≡◌, ℕ, Bool, true, false, List, Some, None, refl}
 use Rattle.std.specs.Prelude.{◌&&◌, if◌then◌else◌}
 use Rattle.lms.specs.Levels.{hss_verifies}
 use Rattle.bfs_signatures.specs.Signature.{is_formed, is_signature_of_leaf, root_in, root_of, root_signature_in, root_signature_of}

@@ -1,9 +1,5 @@
-<<<<<<< HEAD
-//! Settings, keys, keyed hashes, signatures, authenticators and the last replies, as tests whose expected values come from outside: the standards' own
-=======
-//! Settings, keys, signing keys, keyed hashes, authenticators and the last replies, as tests whose expected values come from outside: the standards' own
->>>>>>> h2
-//! vectors, and hashes that Python's hmac made.
+//! Settings, keys, signing keys, keyed hashes, signatures, authenticators and the last replies, as tests whose expected values come from outside: the
+//! standards' own vectors, and hashes that Python's hmac made.
 #![tactic(auto)]
 
 #[cfg(test)]
@@ -17,8 +13,6 @@ mod replies;
 #[cfg(test)]
 mod settings;
 #[cfg(test)]
-<<<<<<< HEAD
 mod signatures;
-=======
+#[cfg(test)]
 mod signing_keys;
->>>>>>> h2
