@@ -2,3 +2,4 @@ mod Blocks
 mod Numbered
 mod Passing
 pub mod Public
+mod Rooted

@@ -8,7 +8,7 @@ ghost use Rattle.bfs_auth.specs.declared.authenticators.Authenticator.TheVariant
 use crate::principals::Principal;
 use bfs_types::{Bytes, Memory, TryClone};
 use smallvec::SmallVec;
-use std::alloc::Global;
+use std::alloc::{AllocError, Global};
 use std::marker::Model;
 use std::sync::Arc;
 
@@ -104,6 +104,15 @@ impl SignatureBytes {
     {
         self.bytes.as_slice()
     }
+
+    /// The same bytes, shared. An error where so many share them that no more can.
+    pub(crate) fn share(&self) -> Result<SignatureBytes, AllocError>
+        ensures { IfOk result (λ shared. shared ≡ self.now) }
+    {
+        Ok(SignatureBytes {
+            bytes: Arc::try_clone(&self.bytes)?,
+        })
+    }
 }
 
 impl Authenticator {
@@ -156,6 +165,15 @@ impl Authenticator {
         }
     }
 
+    pub(crate) fn signature_bytes(&self) -> Option<&SignatureBytes>
+        ensures { option_map (λ bytes. bytes.now) result ≡ signature_in self.now }
+    {
+        match self {
+            Authenticator::Hashes(_) => None,
+            Authenticator::Signature(signature) => Some(signature),
+        }
+    }
+
     /// The bytes of a signature; `None` of keyed hashes.
     pub fn signature(&self) -> Option<&[u8]>
         ensures value { option_map (λ bytes. bytes.now) result ≡ signature_in self.now }
@@ -178,9 +196,7 @@ impl TryClone for KeyedHashes {
 
 impl TryClone for SignatureBytes {
     fn try_clone(&self, _alloc: Global) -> Result<SignatureBytes, Memory> {
-        Ok(SignatureBytes {
-            bytes: Arc::try_clone(&self.bytes)?,
-        })
+        Ok(self.share()?)
     }
 }
 

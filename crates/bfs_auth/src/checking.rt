@@ -1,16 +1,14 @@
 ghost use Rattle.std.specs.Prelude.{◌≡◌, IfOk, map};
-ghost use Rattle.lms.specs.Levels.{hss_public_key_bytes};
-ghost use Rattle.bfs_auth.specs.Authenticators.{entry_for, is_hash, is_signed_by, passes, signature_in};
+ghost use Rattle.bfs_auth.specs.Authenticators.{entry_for, is_hash, passes};
 ghost use Rattle.bfs_auth.specs.Keys.{shared_with};
 
 use crate::authenticators::Authenticator;
-use crate::gathering::least_items;
+use crate::checker::Checker;
+use crate::gathering::least_checked;
 use crate::pairwise::Keys;
 use crate::principals::Principal;
-use crate::signatures::is_signature;
 use crate::texts::Text;
 use bfs_types::Memory;
-use lms::HssPublicKey;
 use rayon::prelude::*;
 use std::alloc::{AllocError, Global};
 use std::thread::Threads;
@@ -34,26 +32,18 @@ pub fn check(keys: &Keys, sender: Principal, text: &[u8], auth: &Authenticator) 
 }
 
 /// What `check` answers of a text that is fed to it in pieces.
-#[tactic(auto, unfolding(crate::specs::Authenticators::passes))]
 pub fn check_text<T: Text>(keys: &Keys, sender: Principal, text: &T, auth: &Authenticator) -> bool
     ensures { result ≡ passes keys.now sender (T.text text.now) auth.now }
 {
-    match keys.public_key_of(sender) {
-        Some(public_key) => is_signed_by(public_key, text, auth),
-        None => is_hashed(keys, sender, text, auth),
-    }
+    Checker::new().check_text(keys, sender, text, auth)
 }
 
-fn is_signed_by<T: Text>(public_key: &HssPublicKey, text: &T, auth: &Authenticator) -> bool
-    ensures { result ≡ is_signed_by (hss_public_key_bytes public_key.now) (T.text text.now) (signature_in auth.now) }
-{
-    match auth.signature() {
-        Some(bytes) => is_signature(public_key, text, bytes),
-        None => false,
-    }
-}
-
-fn is_hashed<T: Text>(keys: &Keys, sender: Principal, text: &T, auth: &Authenticator) -> bool
+pub(crate) fn is_hashed<T: Text>(
+    keys: &Keys,
+    sender: Principal,
+    text: &T,
+    auth: &Authenticator,
+) -> bool
     ensures { result ≡ is_hash (shared_with keys.now sender) (T.text text.now) (entry_for keys.now.me auth.now) }
 {
     let Some(shared) = keys.shared_with(sender) else {
@@ -88,11 +78,12 @@ fn checked(
 {
     items
         .par_iter()
-        .with_min_len(least_items(items, |item| item.text.len()))
-        .map(
-            |item: &Claimed| -> bool
+        .with_min_len(least_checked(items, |item| item.text.len()))
+        .map_init(
+            Checker::new,
+            |checker: &mut Checker, item: &Claimed| -> bool
                 ensures { result ≡ passes keys.entry.now item.now.sender item.now.text.items item.now.auth }
-            { check(keys, item.sender, item.text.as_slice(), &item.auth) },
+            { checker.check_text(keys, item.sender, &item.text.as_slice(), &item.auth) },
         )
         .collect(rt, alloc)
 }

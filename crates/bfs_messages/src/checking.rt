@@ -18,13 +18,21 @@ use crate::tags::{
     CHECKPOINT_TAG, NEW_VIEW_TAG, PRE_PREPARE_TAG, PREPARE_TAG, REQUEST_TAG, VIEW_CHANGE_TAG,
 };
 use crate::votes::{Checkpoint, Vote};
-use bfs_auth::{Authenticator, Keys, Principal, check_text};
+use bfs_auth::{Authenticator, Checker, Keys, Principal, check_text};
 
 /// Whether a message is its sender's, as the holder of the keys sees it. The REQUESTs that it carries are another thing.
 pub fn is_signed(keys: &Keys, signed: &Signed<Message>) -> bool
     ensures { result ≡ is_signed keys.now signed.now }
 {
-    check_text(keys, signed.message.sender(), &signed.message, &signed.auth)
+    is_signed_by(&mut Checker::new(), keys, signed)
+}
+
+/// What `is_signed` answers, by a checker of messages that come one behind another.
+pub fn is_signed_by(checker: &mut Checker, keys: &Keys, signed: &Signed<Message>) -> bool
+    ensures { result ≡ is_signed keys.now signed.now }
+{
+    let sender = signed.message.sender();
+    checker.check_text(keys, sender, &signed.message, &signed.auth)
 }
 
 /// Whether a message of the order is its sender's. The REQUESTs that it carries are another thing.
@@ -39,8 +47,19 @@ pub fn is_order_signed(keys: &Keys, signed: &Signed<OrderMessage>) -> bool
 pub fn is_request_signed(keys: &Keys, signed: &Signed<Request>) -> bool
     ensures { result ≡ request_is_signed keys.now signed.now }
 {
+    is_request_signed_by(&mut Checker::new(), keys, signed)
+}
+
+/// What `is_request_signed` answers, by a checker of REQUESTs that come one behind another.
+pub fn is_request_signed_by(checker: &mut Checker, keys: &Keys, signed: &Signed<Request>) -> bool
+    ensures { result ≡ request_is_signed keys.now signed.now }
+{
     let client = Principal::Client(signed.message.client());
-    check_fields(keys, client, REQUEST_TAG, &signed.message, &signed.auth)
+    let body = Body {
+        tag: REQUEST_TAG,
+        fields: &signed.message,
+    };
+    checker.check_text(keys, client, &body, &signed.auth)
 }
 
 /// Whether a PREPARE is its sender's.

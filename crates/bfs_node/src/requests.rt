@@ -12,8 +12,8 @@ ghost use Rattle.bfs_node.specs.declared.error.NodeError.TheVariants as error;
 
 use crate::error::NodeError;
 use crate::node::Node;
-use bfs_auth::{Authenticator, Keys, least_items};
-use bfs_messages::{HashedBatch, Message, OrderedBatch, Request, Signed, is_signed};
+use bfs_auth::{Authenticator, Checker, Keys, least_checked, least_items};
+use bfs_messages::{HashedBatch, Message, OrderedBatch, Request, Signed, is_signed_by};
 use bfs_types::{MOST_REQUESTS, Memory, Time, TryClone};
 use rayon::join_mut;
 use rayon::prelude::*;
@@ -191,11 +191,12 @@ fn are_signed<R: Threads + Sync>(
 {
     messages
         .par_iter()
-        .with_min_len(least_items(messages, bytes_to_hash))
-        .map(
-            |signed: &Signed<Message>| -> bool
+        .with_min_len(least_checked(messages, bytes_to_hash))
+        .map_init(
+            Checker::new,
+            |checker: &mut Checker, signed: &Signed<Message>| -> bool
                 ensures { result ≡ is_signed keys.entry.now signed.now }
-            { is_signed(keys, signed) },
+            { is_signed_by(checker, keys, signed) },
         )
         .collect(rt, alloc)
 }

@@ -6,8 +6,8 @@ ghost use Rattle.bfs_messages.specs.Signing.{request_is_signed, requests_are_sig
 ghost use Rattle.bfs_pending.specs.Passed.{HavePassed, are_equal, is_alike, is_read_alike, waits};
 
 use crate::waiting::PendingRequests;
-use bfs_auth::{Authenticator, Keys, Principal, least_items};
-use bfs_messages::{OrderedBatch, Request, Signed, is_request_signed};
+use bfs_auth::{Authenticator, Checker, Keys, Principal, least_checked};
+use bfs_messages::{OrderedBatch, Request, Signed, is_request_signed_by};
 use rayon::prelude::*;
 use std::thread::Threads;
 
@@ -74,13 +74,19 @@ fn are_all_signed(
 {
     requests
         .par_iter()
-        .with_min_len(least_items(requests, bytes_to_hash))
-        .all(
-            rt,
-            |signed: &Signed<Request>| -> bool
+        .with_min_len(least_checked(requests, bytes_to_hash))
+        .map_init(
+            Checker::new,
+            |checker: &mut Checker, signed: &Signed<Request>| -> bool
                 requires { HavePassed keys.now waiting.now }
                 ensures { result ≡ request_is_signed keys.entry.now signed.now }
-            { is_signed(keys, waiting, signed) },
+            { is_signed(checker, keys, waiting, signed) },
+        )
+        .all(
+            rt,
+            |answer: bool| -> bool
+                ensures { result ≡ answer }
+            { answer },
         )
 }
 
@@ -88,9 +94,14 @@ fn bytes_to_hash(signed: &Signed<Request>) -> usize {
     signed.message.call().len() + signed.auth.bytes_to_hash()
 }
 
-fn is_signed(keys: &Keys, waiting: &PendingRequests, signed: &Signed<Request>) -> bool
+fn is_signed(
+    checker: &mut Checker,
+    keys: &Keys,
+    waiting: &PendingRequests,
+    signed: &Signed<Request>,
+) -> bool
     requires { HavePassed keys.now waiting.now }
     ensures { result ≡ request_is_signed keys.now signed.now }
 {
-    waiting.waits(keys.me(), signed) || is_request_signed(keys, signed)
+    waiting.waits(keys.me(), signed) || is_request_signed_by(checker, keys, signed)
 }

@@ -1,5 +1,5 @@
-//! Settings, keys, signing keys, keyed hashes, signatures, authenticators and the last replies, as tests whose expected values come from outside: the standards' own
-//! vectors, and hashes that Python's hmac made.
+//! Settings, keys, signing keys, keyed hashes, signatures, authenticators and the last replies, as tests whose expected values come from outside: the
+//! standards' own vectors, and hashes that Python's hmac made.
 #![tactic(auto)]
 
 #[cfg(test)]
