@@ -13,7 +13,7 @@ use std::marker::Model;
 use std::sync::Arc;
 
 /// How many bytes a signature has at most.
-pub const MOST_SIGNATURE_BYTES: usize = 10_240;
+pub const MOST_SIGNATURE_BYTES: usize = 12_288;
 
 /// Keyed hashes of one message: an entry of 32 bytes for each replica, by their numbers, or one entry for a client (TOCS 2002
 /// section 3). At most `MOST_REPLICAS` entries.

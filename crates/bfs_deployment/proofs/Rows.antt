@@ -83,8 +83,8 @@ unfolding deployment_on_literals
 row-no_patience = refl
 
 <<<<<<< HEAD
--- a REQUEST of the most bytes has 26,652
-pub row-requests_cut : deployment_spelled (smallest ++ codes "[limits]\nrequest = 26651\n") ≡ Err (error.OutOfBounds (key.Limit kind.Request) 26652 4294967295)
+-- a REQUEST of the most bytes has 28,700
+pub row-requests_cut : deployment_spelled (smallest ++ codes "[limits]\nrequest = 28699\n") ≡ Err (error.OutOfBounds (key.Limit kind.Request) 28700 4294967295)
 =======
 -- of three levels: trees of height 10 and one-time signatures of W4, by their typecodes (RFC 8554 sections 5.1 and 4.1)
 abbrev signed : List ℕ
