@@ -1,4 +1,6 @@
 mod Blocks
+mod Indexes
 mod Numbered
 mod Passing
+mod Signing
 pub mod Public

@@ -35,10 +35,12 @@ place_in text = if nat_lt (length text) 16 then None else place_by (word_at 0 te
 abbrev pub view_count : HssKey → ℕ
 view_count key = leaf_count key.first.lms - 1
 
--- the index of that number below a leaf. None where there are fewer below it, or where 64 bits are too few for it.
+-- the index of that number below a leaf, where so many are below each. None where the number is none of these, or where 64 bits are too few for the index.
+abbrev pub index_at : (count leaf number : ℕ) → Option ℕ
+index_at count leaf number = if nat_lt number count && nat_lt (leaf * count + number) (2 ^ 64) then Some (leaf * count + number) else None
+
 abbrev pub index_below : HssKey → (leaf number : ℕ) → Option ℕ
-index_below key leaf number =
-    if nat_lt number (count_below key.below) && nat_lt (leaf * count_below key.below + number) (2 ^ 64) then Some (leaf * count_below key.below + number) else None
+index_below key leaf number = index_at (count_below key.below) leaf number
 
 abbrev pub index_in_view : HssKey → (view number : ℕ) → Option ℕ
 index_in_view key view number = if nat_lt view (view_count key) then index_below key view number else None

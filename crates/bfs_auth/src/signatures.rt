@@ -16,7 +16,7 @@ pub(crate) fn is_signature<T: Text>(public_key: &HssPublicKey, text: &T, bytes: 
     verify_leaf(&public_key.to_bytes(), &leaf_hash(text), bytes)
 }
 
-fn leaf_hash<T: Text>(text: &T) -> [u8; 32]
+pub(crate) fn leaf_hash<T: Text>(text: &T) -> [u8; 32]
     ensures { result ≡ leaf_hash (T.text text.now) }
 {
     let mut hasher = leaf_hasher();

@@ -1,15 +1,16 @@
 -- The way from the first tree of a key of several levels to the last.
 use Rattle.std.proofs.Common.{◌≡◌, ◌<◌, ◌≤◌, ◌+◌, ◌*◌, ◌/◌, ◌%◌, ◌^◌, ℕ, suc, Bool, true, List, [], ◌∷◌, ◌++◌, length, take, Some, get_or, refl, sym, ap, ◌∙◌, arith, rules, append_assoc, length-append}
+use Rattle.std.specs.Bool.{Decides}
 use Rattle.std.specs.List.{flat_map}
 use Rattle.std.specs.Prelude.{◌==◌, ◌&&◌, bytes_eq, option_map, sum_by}
-use Rattle.std.proofs.lemmas.Bool.{and_parts, eqb-true}
+use Rattle.std.proofs.lemmas.Bool.{and_from, and_parts, eqb-true}
 use Rattle.std.proofs.lemmas.List.{get_or-take, get_or_push, length-take, length-take-le}
 use Rattle.std.proofs.lemmas.List.Sums.{sum_by-cons}
 use Rattle.std.proofs.Math.Nat.{div-eq_of_lt, div-lt_iff_lt-mul, mod-eq_of_lt}
 use Rattle.std.proofs.lemmas.Nat.{div_below, mod_below, pow-add, pow_pos}
 use Rattle.std.proofs.lemmas.Option.{slice_get_read}
 use Rattle.std.proofs.lemmas.Slice.Eq.{bytes_eq-Decides}
-use denote.Enum.Bare.{same_true, sameb}
+use denote.Enum.Bare.{same_true, sameb, true_same}
 use Rattle.lms.specs.contracts.types.LmsType.{the_type as lms_types}
 use Rattle.lms.specs.contracts.types.OtsType.{the_type as ots_types}
 use Rattle.lms.specs.declared.types.TreeTypes.{TreeTypes}
@@ -51,6 +52,19 @@ same_place a b e =
     let types = same_types a.types b.types second.0 in
     let leaf = eqb-true a.leaf b.leaf second.1 in
     λ i. record { parent = parent i; types = types i; leaf = leaf i }
+
+pub key_decides : (a b : PrivateKey) → Decides (is_key a b) (a ≡ b)
+key_decides a b =
+    (same_key a b,
+    λ e. and_from (sameb lms_types a.lms b.lms) (sameb ots_types a.ots b.ots && (bytes_eq a.id b.id && bytes_eq a.seed b.seed))
+    (true_same lms_types a.lms b.lms (ap (λ k. k.lms) e))
+    (and_from (sameb ots_types a.ots b.ots) (bytes_eq a.id b.id && bytes_eq a.seed b.seed) (true_same ots_types a.ots b.ots (ap (λ k. k.ots) e))
+    (and_from (bytes_eq a.id b.id) (bytes_eq a.seed b.seed) ((bytes_eq-Decides a.id b.id).1 (ap (λ k. k.id) e)) ((bytes_eq-Decides a.seed b.seed).1 (ap (λ k. k.seed) e)))))
+
+pub types_decide : (a b : TreeTypes) → Decides (sameb lms_types a.lms b.lms && sameb ots_types a.ots b.ots) (a ≡ b)
+types_decide a b =
+    (same_types a b,
+    λ e. and_from (sameb lms_types a.lms b.lms) (sameb ots_types a.ots b.ots) (true_same lms_types a.lms b.lms (ap (λ t. t.lms) e)) (true_same ots_types a.ots b.ots (ap (λ t. t.ots) e)))
 
 -- One level down -----------------------------------------------------------------------------------------------------------
 

@@ -59,19 +59,11 @@ impl Signer {
         }
     }
 
-    /// The private key of its first tree.
-    pub fn first(&self) -> &PrivateKey
-        ensures { result.now ≡ self.now.first }
+    /// Whether its key is this one: the private key of the first tree, and the types of the trees of the levels below.
+    pub fn is_of(&self, first: &PrivateKey, below: &[TreeTypes]) -> bool
+        ensures { IsTrue result ↔ (self.now ≡ record { first = first.now; below = below.now }) }
     {
-        self.first.key()
-    }
-
-    /// The types of the trees of the levels below, from the second on.
-    pub fn below(&self) -> &[TreeTypes]
-        ensures value { result.now ≡ self.now.below }
-        ensures within { length result.now < most_levels }
-    {
-        self.below.as_slice()
+        *self.first.key() == *first && *self.below == *below
     }
 
     /// Whether the key has the index: it has as many as its trees of the last level have leaves, by the product of all levels' leaves.

@@ -1,8 +1,4 @@
-<<<<<<< HEAD
-//! Settings, keys, keyed hashes, signatures, authenticators and the last replies, as tests whose expected values come from outside: the standards' own
-=======
-//! Settings, keys, signing keys, keyed hashes, authenticators and the last replies, as tests whose expected values come from outside: the standards' own
->>>>>>> h2
+//! Settings, keys, signing keys, keyed hashes, signatures, authenticators and the last replies, as tests whose expected values come from outside: the standards' own
 //! vectors, and hashes that Python's hmac made.
 #![tactic(auto)]
 
@@ -13,12 +9,12 @@ mod hashes;
 #[cfg(test)]
 mod keys;
 #[cfg(test)]
+mod replica_signatures;
+#[cfg(test)]
 mod replies;
 #[cfg(test)]
 mod settings;
 #[cfg(test)]
-<<<<<<< HEAD
 mod signatures;
-=======
+#[cfg(test)]
 mod signing_keys;
->>>>>>> h2
