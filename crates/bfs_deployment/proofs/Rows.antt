@@ -82,10 +82,6 @@ pub row-no_patience : deployment_spelled (codes "patience = 0\n" ++ smallest) �
 unfolding deployment_on_literals
 row-no_patience = refl
 
-<<<<<<< HEAD
--- a REQUEST of the most bytes has 28,700
-pub row-requests_cut : deployment_spelled (smallest ++ codes "[limits]\nrequest = 28699\n") ≡ Err (error.OutOfBounds (key.Limit kind.Request) 28700 4294967295)
-=======
 -- of three levels: trees of height 10 and one-time signatures of W4, by their typecodes (RFC 8554 sections 5.1 and 4.1)
 abbrev signed : List ℕ
 signed = codes "00000003" ++ codes "00000006" ++ codes "00000003" ++ codes "01010101010101010101010101010101" ++ codes "fFfFfFfFfFfFfFfFfFfFfFfFfFfFfFfFfFfFfFfFfFfFfFfFfFfFfFfFfFfFfFfF"
@@ -120,9 +116,8 @@ pub row-a_signer_of_numbers : deployment_spelled (codes "signers = [3]\n" ++ sma
 unfolding deployment_on_literals
 row-a_signer_of_numbers = refl
 
--- a REQUEST of the most bytes has 17,400
-pub row-requests_cut : deployment_spelled (smallest ++ codes "[limits]\nrequest = 17399\n") ≡ Err (error.OutOfBounds (key.Limit kind.Request) 17400 4294967295)
->>>>>>> h2
+-- a REQUEST of the most bytes has 28,700
+pub row-requests_cut : deployment_spelled (smallest ++ codes "[limits]\nrequest = 28699\n") ≡ Err (error.OutOfBounds (key.Limit kind.Request) 28700 4294967295)
 unfolding deployment_on_literals
 row-requests_cut = refl
 
