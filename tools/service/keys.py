@@ -58,7 +58,7 @@ def heights_in(text):
     """The heights of trees for each level, first the first: numbers with commas between them."""
     words = text.split(",")
     if not 1 <= len(words) <= signatures.MOST_LEVELS or any(word not in map(str, HEIGHTS) for word in words):
-        raise Fault(f"--heights: {text!r} is no one to three of {', '.join(map(str, HEIGHTS))}, with commas between them")
+        raise Fault(f"--heights: {text!r} is no one to eight of {', '.join(map(str, HEIGHTS))}, with commas between them")
     return tuple(map(int, words))
 
 

@@ -9,7 +9,7 @@ from typing import NamedTuple
 sha256 = hashlib.sha256
 HASH = 32  # bytes
 ID = 16
-MOST_LEVELS = 3  # the standard has eight
+MOST_LEVELS = 8
 MOST_HEIGHT = 12  # of a tree over texts
 PUBLIC_KEY = 24 + HASH  # bytes of a tree's
 
@@ -114,7 +114,7 @@ class Tree:
 
 
 class Key:
-    """A private key of one to three levels (section 6), with trees of these heights. The trees that signed last are kept: where the next index is of the same
+    """A private key of one to eight levels (section 6), with trees of these heights. The trees that signed last are kept: where the next index is of the same
     trees, it costs little."""
 
     def __init__(self, identity, seed, heights, ots=W4):
@@ -178,7 +178,7 @@ def of_tree(public_key):
 
 
 def is_public_key(data):
-    """Whether the bytes are a public key of one to three levels."""
+    """Whether the bytes are a public key of one to eight levels."""
     reader = Reader(data)
     try:
         return 1 <= reader.word() <= MOST_LEVELS and bool(of_tree(reader.data))
@@ -217,7 +217,7 @@ def verify_tree(public_key, text, signature):
 
 
 def verify(public_key, text, signature):
-    """Whether the bytes are a signature of the text by a public key of one to three levels (algorithm 9)."""
+    """Whether the bytes are a signature of the text by a public key of one to eight levels (algorithm 9)."""
     reader, key = Reader(signature), Reader(public_key)
     try:
         levels, key = key.word(), key.data

@@ -1,6 +1,6 @@
 -- What passes under keys that are derived from one secret.
-use Rattle.std.proofs.Common.{◌≡◌, ◌<◌, ◌∷◌, [], ℕ, List, map, refl, sym, ap, ◌∙◌, arith, ⊎_elim}
-use Rattle.std.specs.Prelude.{◌↔◌, Option, Some, None, IsTrue, slice_get}
+use Rattle.std.proofs.Common.{◌≡◌, ◌<◌, ◌∷◌, [], ℕ, Bool, List, map, refl, sym, ap, ◌∙◌, arith, ⊎_elim}
+use Rattle.std.specs.Prelude.{◌↔◌, Option, Some, None, IsTrue, option_and_then, slice_get}
 use Rattle.std.specs.List.{range_with_len}
 use Rattle.std.specs.Option.{option_map}
 use Rattle.std.proofs.lemmas.Bool.{cases_lt}
@@ -8,8 +8,9 @@ use Rattle.std.proofs.lemmas.Option.{slice_get-map, slice_get_past}
 use Rattle.std.proofs.lemmas.Slice.Eq.{bytes_eq-Decides}
 use Rattle.bfs_auth.proofs.Numbered.{made_at, none_at}
 use Rattle.bfs_auth.specs.Hmac.{hmac_sha256}
+use Rattle.bfs_auth.specs.Places.{place_in}
 use Rattle.bfs_auth.specs.Keys.{Keys, clients_known, key_from_to, keys_of, public_key_of, shared_keys, shared_with}
-use Rattle.bfs_auth.specs.Authenticators.{entry_for, is_hash, is_right, is_signed_by, passes, signature, signature_in}
+use Rattle.bfs_auth.specs.Authenticators.{entry_for, hashes_of, is_hash, is_right, is_signed_by, passes, signature, signature_in}
 use Rattle.bfs_auth.specs.Laws.{OnlyTheSendersHashPasses, PassesAtAllOrAtNone, PassesAtClients, PassesAtReplicas}
 use Rattle.bfs_auth.specs.declared.authenticators.Authenticator.{Authenticator}
 use Rattle.bfs_auth.specs.declared.authenticators.Authenticator.TheVariants.{Hashes}
@@ -31,11 +32,19 @@ by_number f n k text entry = ⊎_elim
     (λ past. rw (none_at f n k past) (λ no. cc, λ both. absurd (omega (arith, past, both.0))))
     (cases_lt k n)
 
+-- what is known at no place
+nowhere : {X Y : Type 0} (known : Option X) (f : X → Option Y) → ((x : X) → f x ≡ None) → option_and_then f known ≡ None
+nowhere None f none = refl
+nowhere (Some x) f none = none x
+
 -- with derived keys no public key is known
 hashed : (secret : List ℕ) (me sender : Principal) (replicas clients : ℕ) (text : List ℕ) (auth : Authenticator)
     → passes (keys_of secret me replicas clients) sender text auth ≡ is_hash (shared_with (keys_of secret me replicas clients) sender) text (entry_for me auth)
 unfolding passes
-hashed secret me (Replica number) replicas clients text auth = refl
+hashed secret me (Replica number) replicas clients text auth =
+    let keys = keys_of secret me replicas clients in
+    ap (λ (key : Option (List ℕ)). is_right key (shared_with keys (Replica number)) text (entry_for me auth) (signature_in auth))
+    (nowhere (place_in text) (λ place. slice_get [] number) (λ place. slice_get_past [] number (omega arith)))
 hashed secret me (Client number) replicas clients text auth =
     let keys = keys_of secret me replicas clients in
     ap (λ (key : Option (List ℕ)). is_right key (shared_with keys (Client number)) text (entry_for me auth) (signature_in auth)) (slice_get_past [] number (omega arith))
@@ -46,12 +55,20 @@ only_the_senders secret me (Replica number) replicas clients text auth =
 only_the_senders secret me (Client number) replicas clients text auth =
     rw (hashed secret me (Client number) replicas clients text auth) (by_number (λ k. shared_keys secret me (Client k)) (clients_known me clients) number text (entry_for me auth))
 
+-- with derived keys nothing is signed
+pub derived_hashes : (secret : List ℕ) (me : Principal) (replicas clients : ℕ) (text : List ℕ)
+    → signature (keys_of secret me replicas clients) text ≡ hashes_of (keys_of secret me replicas clients) text
+unfolding signature
+derived_hashes secret me replicas clients text = refl
+
 pub at_replicas : PassesAtReplicas
 at_replicas secret sender receiver replicas clients text there share =
     let keys = keys_of secret sender replicas clients in
     let key : slice_get keys.replicas receiver ≡ Some (shared_keys secret sender (Replica receiver)) = made_at (λ k. shared_keys secret sender (Replica k)) replicas receiver there in
     let entry = slice_get-map (λ shared. hmac_sha256 shared.sending text) keys.replicas receiver ∙ ap (option_map (λ shared. hmac_sha256 shared.sending text)) key in
-    (only_the_senders secret (Replica receiver) sender replicas clients text (signature keys text)).1 (share, entry)
+    let whole : entry_for (Replica receiver) (signature keys text) ≡ Some (hmac_sha256 (shared_keys secret sender (Replica receiver)).sending text) =
+    ap (entry_for (Replica receiver)) (derived_hashes secret sender replicas clients text) ∙ entry in
+    (only_the_senders secret (Replica receiver) sender replicas clients text (signature keys text)).1 (share, whole)
 
 pub at_clients : PassesAtClients
 at_clients secret sender receiver replicas clients text auth there signed =
@@ -70,7 +87,7 @@ at_clients secret sender receiver replicas clients text auth there signed =
     (cases_lt receiver clients)
 
 -- of the keys nothing counts but the public key
-by_public_key : (keys : Keys) (sender : Principal) (public_key text : List ℕ) (auth : Authenticator) → public_key_of keys sender ≡ Some public_key
+pub by_public_key : (keys : Keys) (sender : Principal) (public_key text : List ℕ) (auth : Authenticator) → public_key_of keys sender text ≡ Some public_key
     → passes keys sender text auth ≡ is_signed_by public_key text (signature_in auth)
 unfolding passes
 by_public_key keys sender public_key text auth known =

@@ -1,16 +1,19 @@
 -- Authenticators: keyed hashes of one message, for each of its receivers, or a signature that each of them checks alike.
-use Rattle.std.specs.Prelude.{◌≡◌, ◌≤◌, ℕ, Bool, false, List, [], ◌∷◌, map, length, Option, Some, None, slice_get, bytes_eq, All}
+use Rattle.std.specs.Prelude.{◌≡◌, ◌≤◌, ℕ, Bool, false, List, [], ◌∷◌, map, length, Option, Some, None, option_and_then, slice_get, bytes_eq, All}
 use Rattle.std.specs.Option.{option_map}
+use Rattle.lms.specs.Signers.{HssKey}
 use Rattle.bfs_model.specs.Server.Limits.{most_replicas}
 use Rattle.bfs_signatures.specs.Signature.{is_signature}
 use Rattle.bfs_auth.specs.Hmac.{hmac_sha256}
 use Rattle.bfs_auth.specs.Keys.{Keys, public_key_of, shared_with}
-use Rattle.bfs_auth.specs.Signatures.{most_signature_bytes}
+use Rattle.bfs_auth.specs.Places.{index_of, place_in}
+use Rattle.bfs_auth.specs.Signatures.{most_signature_bytes, short_enough, signature_alone}
 use Rattle.bfs_auth.specs.declared.authenticators.Authenticator.{Authenticator}
 use Rattle.bfs_auth.specs.declared.authenticators.Authenticator.TheVariants.{Hashes, Signature}
 use Rattle.bfs_auth.specs.declared.principals.Principal.{Principal}
 use Rattle.bfs_auth.specs.declared.principals.Principal.TheVariants.{Replica, Client}
 use Rattle.bfs_auth.specs.declared.pairwise.SharedKeys.{SharedKeys}
+use Rattle.bfs_auth.specs.declared.places.Place.{Place}
 
 -- at most so many keyed hashes, of 32 bytes each
 abbrev pub AreHashes : List (List ℕ) → Type 0
@@ -21,8 +24,26 @@ IsAuthenticator (Hashes entries) = AreHashes entries
 IsAuthenticator (Signature bytes) = length bytes ≤ most_signature_bytes
 
 -- an entry for each replica, by their numbers
-abbrev pub signature : Keys → (text : List ℕ) → Authenticator
-signature keys text = Hashes (map (λ shared. hmac_sha256 shared.sending text) keys.replicas)
+abbrev pub hashes_of : Keys → (text : List ℕ) → Authenticator
+hashes_of keys text = Hashes (map (λ shared. hmac_sha256 shared.sending text) keys.replicas)
+
+-- no hashes, which pass nowhere, where there is no signature
+abbrev pub signature_or_none : Option (List ℕ) → Authenticator
+signature_or_none None = Hashes []
+signature_or_none (Some bytes) = Signature bytes
+
+-- what is signed by the index of its place; None where the key is spent there
+abbrev pub signed_at : HssKey → Place → (text : List ℕ) → Option (List ℕ)
+signed_at key place text = option_and_then (λ index. short_enough (signature_alone key index text)) (index_of key place)
+
+abbrev pub authenticator_at : Keys → Option HssKey → Option Place → (text : List ℕ) → Authenticator
+authenticator_at keys None place text = hashes_of keys text
+authenticator_at keys (Some key) None text = hashes_of keys text
+authenticator_at keys (Some key) (Some place) text = signature_or_none (signed_at key place text)
+
+-- for all replicas: a signature where the sender has a key for them and the text is of a place, else keyed hashes
+unfoldable pub signature : Keys → (text : List ℕ) → Authenticator
+signature keys text = authenticator_at keys keys.signer (place_in text) text
 
 -- one entry for a client
 abbrev pub signature_for_client : Keys → (client : ℕ) → (text : List ℕ) → Option Authenticator
@@ -65,7 +86,7 @@ abbrev pub is_right : (public_key : Option (List ℕ)) → Option SharedKeys →
 is_right (Some public_key) shared text entry signature = is_signed_by public_key text signature
 is_right None shared text entry signature = is_hash shared text entry
 
--- Whether it is the sender's for the text. Where the sender has a public key: it is a signature of the text by that. Where it has none: the receiver's own
--- entry is the text's keyed hash under the key from the sender to the receiver.
+-- Whether it is the sender's for the text. Where the sender has a public key for such texts: it is a signature of the text by that. Where it has none: the
+-- receiver's own entry is the text's keyed hash under the key from the sender to the receiver.
 unfoldable pub passes : Keys → (sender : Principal) → (text : List ℕ) → Authenticator → Bool
-passes keys sender text auth = is_right (public_key_of keys sender) (shared_with keys sender) text (entry_for keys.me auth) (signature_in auth)
+passes keys sender text auth = is_right (public_key_of keys sender text) (shared_with keys sender) text (entry_for keys.me auth) (signature_in auth)

@@ -13,7 +13,7 @@ use std::marker::Model;
 use std::sync::Arc;
 
 /// How many bytes a signature has at most.
-pub const MOST_SIGNATURE_BYTES: usize = 10_240;
+pub const MOST_SIGNATURE_BYTES: usize = 12_288;
 
 /// Keyed hashes of one message: an entry of 32 bytes for each replica, by their numbers, or one entry for a client (TOCS 2002
 /// section 3). At most `MOST_REPLICAS` entries.
@@ -97,6 +97,16 @@ impl KeyedHashes {
 }
 
 impl SignatureBytes {
+    /// A copy of these bytes, at most `MOST_SIGNATURE_BYTES`. `Memory` if memory runs out.
+    pub(crate) fn new(alloc: Global, bytes: &[u8]) -> Result<SignatureBytes, Memory>
+        requires { length bytes.now ≤ most_signature_bytes }
+        ensures { IfOk result (λ made. made ≡ bytes.now) }
+    {
+        Ok(SignatureBytes {
+            bytes: Arc::new(alloc, Bytes::new(alloc, bytes)?)?,
+        })
+    }
+
     /// The bytes.
     pub fn as_slice(&self) -> &[u8]
         ensures value { result.now ≡ self.now }
@@ -128,9 +138,7 @@ impl Authenticator {
         requires { length bytes.now ≤ most_signature_bytes }
         ensures { IfOk result (λ made. made ≡ auth.Signature bytes.now) }
     {
-        Ok(Authenticator::Signature(SignatureBytes {
-            bytes: Arc::new(alloc, Bytes::new(alloc, bytes)?)?,
-        }))
+        Ok(Authenticator::Signature(SignatureBytes::new(alloc, bytes)?))
     }
 
     /// The entries of keyed hashes, in order; none of a signature.

@@ -49,7 +49,7 @@ impl Checker {
     ) -> bool
         ensures { result ≡ passes keys.now sender (T.text text.now) auth.now }
     {
-        match keys.public_key_of(sender) {
+        match keys.public_key_of(sender, text) {
             Some(public_key) => self.is_signed_by(public_key, text, auth),
             None => is_hashed(keys, sender, text, auth),
         }

@@ -116,8 +116,8 @@ pub row-a_signer_of_numbers : deployment_spelled (codes "signers = [3]\n" ++ sma
 unfolding deployment_on_literals
 row-a_signer_of_numbers = refl
 
--- a REQUEST of the most bytes has 26,652
-pub row-requests_cut : deployment_spelled (smallest ++ codes "[limits]\nrequest = 26651\n") ≡ Err (error.OutOfBounds (key.Limit kind.Request) 26652 4294967295)
+-- a REQUEST of the most bytes has 28,700
+pub row-requests_cut : deployment_spelled (smallest ++ codes "[limits]\nrequest = 28699\n") ≡ Err (error.OutOfBounds (key.Limit kind.Request) 28700 4294967295)
 unfolding deployment_on_literals
 row-requests_cut = refl
 

@@ -36,9 +36,9 @@ pub row-no_level : signing_key_spelled (secrets ++ codes "heights = []\n") ≡ N
 unfolding signing_on_literals
 row-no_level = refl
 
-pub row-four_levels : signing_key_spelled (secrets ++ codes "heights = [5, 5, 5, 5]\n") ≡ None
+pub row-nine_levels : signing_key_spelled (secrets ++ codes "heights = [5, 5, 5, 5, 5, 5, 5, 5, 5]\n") ≡ None
 unfolding signing_on_literals
-row-four_levels = refl
+row-nine_levels = refl
 
 pub row-another_height : signing_key_spelled (secrets ++ codes "heights = [20]\n") ≡ None
 unfolding signing_on_literals

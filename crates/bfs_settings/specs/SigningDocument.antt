@@ -40,7 +40,7 @@ levels_of (item value more) = do
 abbrev pub levels_in : Data → Option (List TreeTypes)
 levels_in value = as_array value >>= levels_of
 
--- a key of one to three levels
+-- a key of one to eight levels
 abbrev pub signing_key_of : (id seed : List ℕ) (levels : List TreeTypes) → Option HssKey
 signing_key_of id seed [] = None
 signing_key_of id seed (first ∷ below) =

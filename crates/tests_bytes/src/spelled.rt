@@ -79,8 +79,8 @@ pub static MALFORMED: [(&str, &str); 16] = [
         "00000003000000020000000000000000000000000000000111e18a01dc86d38d7da1bf2d6afe3513e57d95839018710bd141228285a08a79fffffffe",
     ),
     (
-        "a signature of 10,241 bytes",
-        "0000000100000003000000000000000500000006612063616c6c0000ffffffff00002801",
+        "a signature of 12,289 bytes",
+        "0000000100000003000000000000000500000006612063616c6c0000ffffffff00003001",
     ),
     (
         "fewer bytes than a signature says",

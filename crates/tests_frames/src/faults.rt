@@ -82,8 +82,8 @@ static MORE: &[(&str, &str)] = &[
         "limits.view_change: it is no whole number",
     ),
     (
-        "[limits]\nrequest = 26651",
-        "limits.request: it is no number from 26652 to 4294967295",
+        "[limits]\nrequest = 28699",
+        "limits.request: it is no number from 28700 to 4294967295",
     ),
     (
         "[limits]\nlog = 4294967296",
@@ -113,7 +113,7 @@ static SIGNERS: &[(&[&str], &str)] = &[
         "signers: one of them is no public key",
     ),
     (
-        &["['00000004", TYPES, OTHERS, "']"],
+        &["['00000009", TYPES, OTHERS, "']"],
         "signers: one of them is no public key",
     ),
     (

@@ -9,6 +9,8 @@ mod hashes;
 #[cfg(test)]
 mod keys;
 #[cfg(test)]
+mod replica_signatures;
+#[cfg(test)]
 mod replies;
 #[cfg(test)]
 mod settings;

@@ -86,9 +86,9 @@ static LEVELS: [Case; 14] = [
     Case(&[ID, SEED, b"heights = [5]"], 0),
     Case(&[ID, SEED, b"heights = [10]"], 0),
     Case(&[ID, SEED, b"heights = [15, 15]"], 0),
-    Case(&[ID, SEED, b"heights = [10, 10, 10]"], 0),
+    Case(&[ID, SEED, b"heights = [10, 10, 10, 10]"], 0),
     Case(&[ID, SEED, b"heights = []"], 43),
-    Case(&[ID, SEED, b"heights = [5, 5, 5, 5]"], 43),
+    Case(&[ID, SEED, b"heights = [5, 5, 5, 5, 5, 5, 5, 5, 5]"], 43),
     Case(&[ID, SEED, b"heights = [20]"], 43),
     Case(&[ID, SEED, b"heights = [5, 6]"], 43),
     Case(&[ID, SEED, b"heights = [-5]"], 43),
@@ -100,7 +100,7 @@ static LEVELS: [Case; 14] = [
 ];
 
 #[test]
-fn there_are_one_to_three_levels(rt: HostRuntime) -> Result<(), Fail> {
+fn there_are_one_to_eight_levels(rt: HostRuntime) -> Result<(), Fail> {
     compared(first_wrong(rt.alloc(), &LEVELS)?, None)?;
     Ok(())
 }

@@ -50,9 +50,9 @@ def signed(service):
     said, status = service.bfs("keys", folders[0], "--heights", "5,5")
     check(status == 1 and "nothing is written over" in said and Path(folders[0], SIGNING_KEY).read_text() == one, said)
     for words, told in (
-        (["--heights", "5,6"], "--heights: '5,6' is no one to three of 5, 10, 15"),
-        (["--heights", "5,5,5,5"], "--heights: '5,5,5,5' is no one to three"),
-        (["--heights", ""], "--heights: '' is no one to three"),
+        (["--heights", "5,6"], "--heights: '5,6' is no one to eight of 5, 10, 15"),
+        (["--heights", "5,5,5,5,5,5,5,5,5"], "--heights: '5,5,5,5,5,5,5,5,5' is no one to eight"),
+        (["--heights", ""], "--heights: '' is no one to eight"),
         (["--heights", "5", "--unsigned"], "--unsigned: a relay that signs nothing"),
     ):
         said, status = service.bfs("keys", f"{service.folder}-none", *words)
