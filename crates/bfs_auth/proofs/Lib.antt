@@ -2,6 +2,6 @@ mod Blocks
 mod Indexes
 mod Numbered
 mod Passing
-mod Signing
+mod SignedTexts
 pub mod Public
 mod Rooted
