@@ -2,5 +2,5 @@ mod Blocks
 mod Indexes
 mod Numbered
 mod Passing
-mod Signing
+mod SignedTexts
 pub mod Public
