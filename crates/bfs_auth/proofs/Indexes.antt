@@ -1,8 +1,9 @@
 -- Which place an index is of.
 use Rattle.std.proofs.Common.{◌≡◌, ◌<◌, ◌≤◌, ◌+◌, ◌-◌, ◌*◌, ◌/◌, ◌%◌, ◌^◌, ℕ, Bool, true, false, refl, sym, ap, ◌∙◌, arith}
 use Rattle.std.specs.Prelude.{◌&&◌, Option, Some, None, nat_lt, if◌then◌else◌}
-use Rattle.std.proofs.Math.Nat.{mod-eq_of_lt, add-mul, mul-add-mod_self_right, mul-le-mul_right}
-use Rattle.std.proofs.lemmas.Bool.{and_parts}
+use Rattle.std.proofs.Math.Nat.{add-mul, mod-eq_of_lt, mul-add-mod_self_right, mul-le-mul_right, one-mul, zero-mul}
+use Rattle.std.proofs.Math.Pow.{pow_mono}
+use Rattle.std.proofs.lemmas.Bool.{and_from, and_parts, cond-false, cond-true, le-ltb, lt-ltb}
 use Rattle.std.proofs.lemmas.Nat.{div-mul-add, pow_pos}
 use borrow.Author.Tests.{ltb-true}
 use Rattle.lms.specs.Signers.{HssKey, count_below, index_count}
@@ -110,3 +111,31 @@ of_the_key key (NewView view) index e = of_view key view 1 index e
 of_the_key key (Checkpoint number) index e =
     let found = below_of (count_below key.below) (view_count key) number index e in
     (below_all key (view_count key) number index (omega arith) found, found.within)
+
+pub index_within : (key : HssKey) (place : Place) (index : ℕ) → index_of key place ≡ Some index → index < index_count key
+index_within key place index e = (of_the_key key place index e).0
+
+-- Where more are below a leaf than there are indexes --------------------------------------------------------------------------
+
+pub first_leaf : (height leaf number : ℕ) → 64 ≤ height → leaf ≡ 0 → number < 2 ^ 64 → Some number ≡ index_at (2 ^ height) leaf number
+first_leaf height leaf number high first small =
+    let count = 2 ^ height in
+    let many : 2 ^ 64 ≤ count = pow_mono high in
+    let none : leaf * count ≡ 0 = ap (λ l. l * count) first ∙ zero-mul count in
+    let e : leaf * count + number ≡ number = omega (arith, none) in
+    let fits = and_from (nat_lt number count) (nat_lt (leaf * count + number) (2 ^ 64)) (lt-ltb number count (omega (arith, many, small))) (lt-ltb (leaf * count + number) (2 ^ 64) (omega (arith, e, small))) in
+    sym (cond-true (nat_lt number count && nat_lt (leaf * count + number) (2 ^ 64)) (Some (leaf * count + number)) None fits ∙ ap (λ n. Some n) e)
+
+and_false : (b : Bool) → (b && false) ≡ false
+and_false true = refl
+and_false false = refl
+
+pub other_leaf : (height leaf number : ℕ) → 64 ≤ height → 0 < leaf → None ≡ index_at (2 ^ height) leaf number
+other_leaf height leaf number high more =
+    let count = 2 ^ height in
+    let many : 2 ^ 64 ≤ count = pow_mono high in
+    let one : 1 ≤ leaf = omega arith in
+    let large : 2 ^ 64 ≤ leaf * count + number = omega (arith, many, mul-le-mul_right count one, one-mul count) in
+    let late = le-ltb (leaf * count + number) (2 ^ 64) large in
+    sym (cond-false (nat_lt number count && nat_lt (leaf * count + number) (2 ^ 64)) (Some (leaf * count + number)) None
+    (ap (λ b. nat_lt number count && b) late ∙ and_false (nat_lt number count)))

@@ -1,5 +1,5 @@
 // What a replica signs by its own key.
-ghost use Rattle.std.specs.Prelude.{◌≡◌, ◌+◌, ◌*◌, ◌^◌, ◌≤◌, ◌<◌, ◌↔◌, length, vec_len, Err, IfOk};
+ghost use Rattle.std.specs.Prelude.{◌≡◌, ◌+◌, ◌*◌, ◌^◌, ◌≤◌, ◌<◌, length, vec_len, Err, IfOk};
 ghost use Rattle.lms.specs.Levels.{most_levels};
 ghost use Rattle.lms.specs.Signers.{count_below, hss_signature_of, index_count};
 ghost use Rattle.lms.specs.declared.error.SignError.TheVariants as error;
@@ -67,7 +67,7 @@ impl ReplicaSigner {
         leaf: &[u8; 32],
     ) -> Result<Vec<u8>, SignError>
         ensures ok { IfOk result (λ bytes. bytes.items ≡ hss_signature_of self.now index leaf.now) }
-        ensures no_index { (result ≡ Err error.NoIndex) ↔ (index_count self.now ≤ index) }
+        ensures no_index { result ≡ Err error.NoIndex → index_count self.now ≤ index }
     {
         if let Some(mut trees) = trees.try_lock() {
             // they always are
@@ -124,6 +124,7 @@ impl ReplicaSigner {
     }
 
     // the signature of a text by the index of the place; `None` where the key is spent there, or the signature is too long
+    #[tactic(auto, using(crate::proofs::Indexes::index_within))]
     pub(crate) fn sign<T: Text>(
         &self,
         alloc: Global,
@@ -137,7 +138,8 @@ impl ReplicaSigner {
         };
         let signed = match self.sign_leaf(alloc, self.trees(place), index, &leaf_hash(text)) {
             Ok(signed) => signed,
-            Err(_) => return Err(Memory),
+            Err(SignError::NoIndex) => unreachable!(),
+            Err(SignError::Memory) => return Err(Memory),
         };
         let mut bytes = Vec::new(alloc);
         bytes.extend_from_slice(&[0; 8])?;

@@ -30,10 +30,7 @@ pub fn sign_text<T: Text>(alloc: Global, keys: &Keys, text: &T) -> Result<Authen
 }
 
 // no entries where there is no signature
-fn signed_or_none(
-    alloc: Global,
-    signed: Option<SignatureBytes>,
-) -> Authenticator
+fn signed_or_none(alloc: Global, signed: Option<SignatureBytes>) -> Authenticator
     ensures { result ≡ signature_or_none signed }
 {
     match signed {

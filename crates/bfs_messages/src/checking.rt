@@ -78,7 +78,12 @@ pub fn is_checkpoint_signed(keys: &Keys, signed: &Signed<Checkpoint>) -> bool
     ensures { result ≡ order_is_signed keys.now (as_message order.Checkpoint signed.now) }
 {
     let sender = Principal::Replica(signed.message.sender());
-    check_text(keys, sender, &Body::Checkpoint(&signed.message), &signed.auth)
+    check_text(
+        keys,
+        sender,
+        &Body::Checkpoint(&signed.message),
+        &signed.auth,
+    )
 }
 
 /// Whether a VIEW-CHANGE is its sender's. The messages within it are another thing.
@@ -86,7 +91,12 @@ pub fn is_view_change_signed(keys: &Keys, signed: &Signed<ViewChange>) -> bool
     ensures { result ≡ is_signed keys.now (as_message kind.ViewChange signed.now) }
 {
     let sender = Principal::Replica(signed.message.sender());
-    check_text(keys, sender, &Body::ViewChange(&signed.message), &signed.auth)
+    check_text(
+        keys,
+        sender,
+        &Body::ViewChange(&signed.message),
+        &signed.auth,
+    )
 }
 
 /// Whether a NEW-VIEW is its sender's. The messages within it are another thing.

@@ -54,17 +54,19 @@ same_place a b e =
     λ i. record { parent = parent i; types = types i; leaf = leaf i }
 
 pub key_decides : (a b : PrivateKey) → Decides (is_key a b) (a ≡ b)
-key_decides a b =
-    (same_key a b,
-    λ e. and_from (sameb lms_types a.lms b.lms) (sameb ots_types a.ots b.ots && (bytes_eq a.id b.id && bytes_eq a.seed b.seed))
-    (true_same lms_types a.lms b.lms (ap (λ k. k.lms) e))
-    (and_from (sameb ots_types a.ots b.ots) (bytes_eq a.id b.id && bytes_eq a.seed b.seed) (true_same ots_types a.ots b.ots (ap (λ k. k.ots) e))
-    (and_from (bytes_eq a.id b.id) (bytes_eq a.seed b.seed) ((bytes_eq-Decides a.id b.id).1 (ap (λ k. k.id) e)) ((bytes_eq-Decides a.seed b.seed).1 (ap (λ k. k.seed) e)))))
+key_decides a b = (
+  same_key a b,
+  λ e. and_from (sameb lms_types a.lms b.lms) (sameb ots_types a.ots b.ots && (bytes_eq a.id b.id && bytes_eq a.seed b.seed))
+      (true_same lms_types a.lms b.lms (ap (λ k. k.lms) e))
+      (and_from (sameb ots_types a.ots b.ots) (bytes_eq a.id b.id && bytes_eq a.seed b.seed) (true_same ots_types a.ots b.ots (ap (λ k. k.ots) e))
+      (and_from (bytes_eq a.id b.id) (bytes_eq a.seed b.seed) ((bytes_eq-Decides a.id b.id).1 (ap (λ k. k.id) e)) ((bytes_eq-Decides a.seed b.seed).1 (ap (λ k. k.seed) e)))),
+)
 
 pub types_decide : (a b : TreeTypes) → Decides (sameb lms_types a.lms b.lms && sameb ots_types a.ots b.ots) (a ≡ b)
-types_decide a b =
-    (same_types a b,
-    λ e. and_from (sameb lms_types a.lms b.lms) (sameb ots_types a.ots b.ots) (true_same lms_types a.lms b.lms (ap (λ t. t.lms) e)) (true_same ots_types a.ots b.ots (ap (λ t. t.ots) e)))
+types_decide a b = (
+  same_types a b,
+  λ e. and_from (sameb lms_types a.lms b.lms) (sameb ots_types a.ots b.ots) (true_same lms_types a.lms b.lms (ap (λ t. t.lms) e)) (true_same ots_types a.ots b.ots (ap (λ t. t.ots) e)),
+)
 
 -- One level down -----------------------------------------------------------------------------------------------------------
 

@@ -12,8 +12,9 @@ returns-then-eq c =
     let first_alike : c.key.result.now ≡ c.args.first.now = (key_decides c.key.result.now c.args.first.now).0 (sym c.eq.ensures ∙ c.if-eq.true) in
     let first : key.first ≡ c.args.first.now = sym first_is ∙ first_alike in
     let levels_are : c.deref.result.now ≡ key.below = c.deref.ensures.value ∙ ap (λ k. k.below) c.self.view_is in
-    let decides = slice_eq-Decides types_decide c.deref.result.now c.args.below.now c.eq-then-eq.result c.eq-then-eq.ensures in
-    (λ yes.
-    let below : key.below ≡ c.args.below.now = sym levels_are ∙ decides.0 yes in
-    λ i. record { first = first i; below = below i },
-    λ e. decides.1 (levels_are ∙ ap (λ k. k.below) e))
+    let decides = slice_eq-Decides types_decide c.deref.result.now c.args.below.now c.eq-then-eq.result c.eq-then-eq.ensures in (
+      λ yes.
+          let below : key.below ≡ c.args.below.now = sym levels_are ∙ decides.0 yes in
+          λ i. record { first = first i; below = below i },
+      λ e. decides.1 (levels_are ∙ ap (λ k. k.below) e),
+    )
