@@ -147,11 +147,7 @@ impl Room {
     }
 
     // Only one of each has a place. Of a client as many stay here as may wait at the node.
-    fn place_for_new(
-        &mut self,
-        request: &Request,
-        auth: &Authenticator,
-    ) -> Result<Place, Memory> {
+    fn place_for_new(&mut self, request: &Request, auth: &Authenticator) -> Result<Place, Memory> {
         let count = self.count_of(request.client());
         if self
             .names
