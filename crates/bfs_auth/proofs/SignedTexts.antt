@@ -7,7 +7,7 @@ use Rattle.lms.specs.Levels.{hss_public_key_bytes, most_levels}
 use Rattle.lms.specs.Signers.{HssKey, hss_public_key, index_count}
 use Rattle.bfs_signatures.specs.Signature.{is_signature}
 use Rattle.bfs_signatures.specs.Signing.{least_height, node, signatures_of}
-use Rattle.bfs_signatures.proofs.Signed.{signed_texts_verify}
+use Rattle.bfs_signatures.proofs.Public.{signed_texts_verify}
 use Rattle.bfs_auth.proofs.Indexes.{of_the_key}
 use Rattle.bfs_auth.specs.Keys.{Keys, public_key_of}
 use Rattle.bfs_auth.specs.Places.{index_of, place_in}

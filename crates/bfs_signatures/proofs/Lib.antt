@@ -5,3 +5,4 @@ mod Heights
 mod Kept
 pub mod Signed
 pub mod Telling
+pub mod Public

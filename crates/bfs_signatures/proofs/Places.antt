@@ -6,7 +6,7 @@ use Rattle.std.proofs.lemmas.Nat.{div_below, pow-add, pow_pos}
 use Rattle.std.proofs.Math.Nat.{mul_comm, pow-succ'}
 use Rattle.std.proofs.Math.Pow.{pow_mono}
 use Rattle.lms.specs.Secrets.{sibling}
-use Rattle.lms.proofs.Paths.{even_sibling, odd_sibling}
+use Rattle.lms.proofs.Public.{even_sibling, odd_sibling}
 use Rattle.bfs_signatures.specs.Signature.{most_height}
 use Rattle.bfs_signatures.specs.Nodes.{place_of}
 

@@ -15,9 +15,7 @@ use Rattle.lms.specs.Chains.{joined}
 use Rattle.lms.specs.Levels.{hss_public_key_bytes, hss_verifies}
 use Rattle.lms.specs.Secrets.{sibling}
 use Rattle.lms.specs.Signers.{hss_public_key, hss_signature_of}
-use Rattle.lms.proofs.Paths.{even_sibling, odd_sibling}
-use Rattle.lms.proofs.SignedLevels.{hss_signed_verifies}
-use Rattle.lms.proofs.Standing.{behind, hash_at-joined, joined_long, word_here}
+use Rattle.lms.proofs.Public.{behind, even_sibling, hash_at-joined, hss_signed_verifies, joined_long, odd_sibling, word_here}
 use Rattle.bfs_signatures.specs.Hashes.{climbed, leaf_hash, node_above, node_hash}
 use Rattle.bfs_signatures.specs.Signature.{height_in, is_formed, is_signature_of_leaf, most_height, number_in, path_in, root_in, root_signature_in}
 use Rattle.bfs_signatures.specs.Signing.{beside, height_of, node, root, signature_under}

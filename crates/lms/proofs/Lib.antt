@@ -8,3 +8,4 @@ pub mod Standing
 pub mod Signed
 mod Ways
 pub mod SignedLevels
+pub mod Public

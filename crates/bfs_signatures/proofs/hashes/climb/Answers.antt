@@ -1,5 +1,5 @@
 use Rattle.std.proofs.Common.{◌/◌, sym, ap, ◌∙◌, arith}
-use Rattle.lms.proofs.Steps.{halved}
+use Rattle.lms.proofs.Public.{halved}
 use Rattle.bfs_signatures.proofs.Climbing.{climbed_more, climbed_none}
 use Rattle.bfs_signatures.proofs.hashes.climb.Goals as goal
 

@@ -5,7 +5,7 @@ use Rattle.lms.specs.Secrets.{sibling}
 use Rattle.lms.specs.Chains.{joined}
 use Rattle.bfs_signatures.specs.Signing.{beside, node}
 use Rattle.bfs_signatures.specs.Nodes.{place_of}
-use Rattle.lms.proofs.Steps.{halved, joined_more, joined_none}
+use Rattle.lms.proofs.Public.{halved, joined_more, joined_none}
 use Rattle.bfs_signatures.proofs.Places.{level_fits, on_the_way, place_above, place_beside, place_zero, width_fits}
 use Rattle.bfs_signatures.proofs.tree.Tree.put_path.Goals as goal
 
