@@ -1,5 +1,5 @@
 -- What messages are of.
-use Rattle.std.proofs.Common.{◌≡◌, ◌<◌, ◌≤◌, ◌+◌, ◌^◌, ℕ, Bool, true, false, List, ◌++◌, length, Option, Some, None, refl, sym, ap, ◌∙◌, arith}
+use Rattle.std.proofs.Common.{◌≡◌, ◌<◌, ◌≤◌, ◌+◌, ◌^◌, ℕ, Bool, true, false, List, ◌++◌, length, drop, Option, Some, None, refl, sym, ap, ◌∙◌, arith}
 use Rattle.std.specs.Prelude.{nat_le, nat_lt, if◌then◌else◌}
 use Rattle.std.proofs.lemmas.Bool.{cond-false, cond-true, le-leb, le-ltb}
 use Rattle.std.proofs.lemmas.Nat.{from_be_bytes-to_be_bytes_4, from_be_bytes-to_be_bytes_8}
@@ -18,14 +18,14 @@ by_tag : (tag : ℕ) (bytes : List ℕ) → 16 ≤ length bytes → word_at 0 by
 unfolding place_in
 by_tag tag bytes long e = cond-false (nat_lt (length bytes) 16) None (place_by (word_at 0 bytes) bytes) (le-ltb (length bytes) 16 long) ∙ ap (λ t. place_by t bytes) e
 
-none_twice : (t : Bool) → (if t then None else None) ≡ None {A = Place}
-none_twice true = refl
-none_twice false = refl
+same_twice : (t : Bool) (p : Option Place) → (if t then p else p) ≡ p
+same_twice true p = refl
+same_twice false p = refl
 
 none_by : (tag : ℕ) (bytes : List ℕ) → word_at 0 bytes ≡ tag → place_by tag bytes ≡ None → place_in bytes ≡ None
 unfolding place_in
 none_by tag bytes e none =
-    ap (λ (p : Option Place). if nat_lt (length bytes) 16 then None else p) (ap (λ t. place_by t bytes) e ∙ none) ∙ none_twice (nat_lt (length bytes) 16)
+    ap (λ (p : Option Place). if nat_lt (length bytes) 16 then None else p) (ap (λ t. place_by t bytes) e ∙ none) ∙ same_twice (nat_lt (length bytes) 16) None
 
 -- a tag that stands in front
 tag_read : (tag : ℕ) (rest : List ℕ) → tag < 2 ^ 32 → word_at 0 (word tag ++ rest) ≡ tag
@@ -75,37 +75,37 @@ commit_place vote = none_by commit_tag (word commit_tag ++ vote_text vote) (tag_
 
 pub pre_prepare_place : (vote : model.Vote) → vote.view ≤ most_number → vote.number ≤ most_number
     → place_in (word pre_prepare_tag ++ vote_text vote) ≡ Some (place.Vote vote.view vote.number)
+unfolding word hyper
 pre_prepare_place vote few also =
-    let bytes = word pre_prepare_tag ++ vote_text vote in
-    by_tag pre_prepare_tag bytes (front_long pre_prepare_tag vote.sender vote.view _) (tag_read pre_prepare_tag (vote_text vote) (omega arith))
-    ∙ vote_read pre_prepare_tag vote.sender vote.view vote.number _ few also
+    let behind = drop 20 (vote_text vote) in
+    by_tag pre_prepare_tag (word pre_prepare_tag ++ vote_text vote) (front_long pre_prepare_tag vote.sender vote.view (hyper vote.number ++ behind)) (tag_read pre_prepare_tag (vote_text vote) (omega arith))
+    ∙ vote_read pre_prepare_tag vote.sender vote.view vote.number behind few also
 
 pub prepare_place : (vote : model.Vote) → vote.view ≤ most_number → vote.number ≤ most_number
     → place_in (word prepare_tag ++ vote_text vote) ≡ Some (place.Vote vote.view vote.number)
+unfolding word hyper
 prepare_place vote few also =
-    let bytes = word prepare_tag ++ vote_text vote in
-    by_tag prepare_tag bytes (front_long prepare_tag vote.sender vote.view _) (tag_read prepare_tag (vote_text vote) (omega arith))
-    ∙ vote_read prepare_tag vote.sender vote.view vote.number _ few also
+    let behind = drop 20 (vote_text vote) in
+    by_tag prepare_tag (word prepare_tag ++ vote_text vote) (front_long prepare_tag vote.sender vote.view (hyper vote.number ++ behind)) (tag_read prepare_tag (vote_text vote) (omega arith))
+    ∙ vote_read prepare_tag vote.sender vote.view vote.number behind few also
 
-pub checkpoint_place : (checkpoint : model.Checkpoint) → checkpoint.number ≤ most_number
-    → place_in (word checkpoint_tag ++ checkpoint_text checkpoint) ≡ Some (place.Checkpoint checkpoint.number)
+pub checkpoint_place : (checkpoint : model.Checkpoint) → checkpoint.number ≤ most_number → place_in (word checkpoint_tag ++ checkpoint_text checkpoint) ≡ Some (place.Checkpoint checkpoint.number)
+unfolding word hyper
 checkpoint_place checkpoint few =
-    let bytes = word checkpoint_tag ++ checkpoint_text checkpoint in
-    by_tag checkpoint_tag bytes (front_long checkpoint_tag checkpoint.sender checkpoint.number _) (tag_read checkpoint_tag (checkpoint_text checkpoint) (omega arith))
-    ∙ ap (λ n. Some (place.Checkpoint n)) (first_read checkpoint_tag checkpoint.sender checkpoint.number _ few)
+    let behind = drop 12 (checkpoint_text checkpoint) in
+    by_tag checkpoint_tag (word checkpoint_tag ++ checkpoint_text checkpoint) (front_long checkpoint_tag checkpoint.sender checkpoint.number behind) (tag_read checkpoint_tag (checkpoint_text checkpoint) (omega arith))
+    ∙ ap (λ n. Some (place.Checkpoint n)) (first_read checkpoint_tag checkpoint.sender checkpoint.number behind few)
 
-pub view_change_place : (change : model.ViewChange) → change.view ≤ most_number
-    → place_in (word view_change_tag ++ view_change_text change) ≡ Some (place.ViewChange change.view)
-unfolding view_change_text
+pub view_change_place : (change : model.ViewChange) → change.view ≤ most_number → place_in (word view_change_tag ++ view_change_text change) ≡ Some (place.ViewChange change.view)
+unfolding word hyper view_change_text
 view_change_place change few =
-    let bytes = word view_change_tag ++ view_change_text change in
-    by_tag view_change_tag bytes (front_long view_change_tag change.sender change.view _) (tag_read view_change_tag (view_change_text change) (omega arith))
-    ∙ ap (λ n. Some (place.ViewChange n)) (first_read view_change_tag change.sender change.view _ few)
+    let behind = drop 12 (view_change_text change) in
+    by_tag view_change_tag (word view_change_tag ++ view_change_text change) (front_long view_change_tag change.sender change.view behind) (tag_read view_change_tag (view_change_text change) (omega arith))
+    ∙ ap (λ n. Some (place.ViewChange n)) (first_read view_change_tag change.sender change.view behind few)
 
-pub new_view_place : (new : model.NewView) → new.view ≤ most_number
-    → place_in (word new_view_tag ++ new_view_text new) ≡ Some (place.NewView new.view)
-unfolding new_view_text
+pub new_view_place : (new : model.NewView) → new.view ≤ most_number → place_in (word new_view_tag ++ new_view_text new) ≡ Some (place.NewView new.view)
+unfolding word hyper new_view_text
 new_view_place new few =
-    let bytes = word new_view_tag ++ new_view_text new in
-    by_tag new_view_tag bytes (front_long new_view_tag new.sender new.view _) (tag_read new_view_tag (new_view_text new) (omega arith))
-    ∙ ap (λ n. Some (place.NewView n)) (first_read new_view_tag new.sender new.view _ few)
+    let behind = drop 12 (new_view_text new) in
+    by_tag new_view_tag (word new_view_tag ++ new_view_text new) (front_long new_view_tag new.sender new.view behind) (tag_read new_view_tag (new_view_text new) (omega arith))
+    ∙ ap (λ n. Some (place.NewView n)) (first_read new_view_tag new.sender new.view behind few)
