@@ -212,7 +212,7 @@ fn terms_of(deployment: &Deployment) -> Terms {
     Terms::of(deployment.f(), deployment.patience(), &deployment.limits())
 }
 
-/// The keys of a replica of that cluster.
+/// The keys of a replica of that cluster, with the public keys of its clients, where these sign.
 fn keys_at<R: Runtime + AllocGlobal>(
     rt: &R,
     deployment: &Deployment,
@@ -232,5 +232,6 @@ fn keys_at<R: Runtime + AllocGlobal>(
     if keys.clients() != deployment.clients() as usize || keys.clients() > MOST_CLIENTS as usize {
         return Err(Error::msg("there are other clients in the cluster"));
     }
-    Ok(keys)
+    let signers = deployment.signers().to_vec(rt.alloc())?;
+    Ok(keys.with_signers(signers))
 }
