@@ -222,7 +222,8 @@ fn keys_at<R: Runtime + AllocGlobal>(
     ensures clients { IfOk result (λ keys. length keys.clients ≤ most_clients) }
 {
     let document = fs::read(rt, path)?;
-    let keys = parse_keys(rt.alloc(), document.as_slice())?;
+    let signers = deployment.signers().to_vec(rt.alloc())?;
+    let keys = parse_keys(rt.alloc(), document.as_slice())?.with_signers(signers);
     let Some((f, _)) = keys.replica_of() else {
         return Err(Error::msg("these are not the keys of a replica"));
     };
@@ -232,6 +233,5 @@ fn keys_at<R: Runtime + AllocGlobal>(
     if keys.clients() != deployment.clients() as usize || keys.clients() > MOST_CLIENTS as usize {
         return Err(Error::msg("there are other clients in the cluster"));
     }
-    let signers = deployment.signers().to_vec(rt.alloc())?;
-    Ok(keys.with_signers(signers))
+    Ok(keys)
 }
