@@ -82,6 +82,7 @@ def peak(process):
 
 
 QUICK = "--heights", "5,5,5"  # words of `tools/bfs keys`: a key that is made at once, and signs in 32,768 turns
+LASTING = "--heights", "5,10,10"  # one that is made as soon, and signs in 2^25 turns; its relay starts later
 UNSIGNED = ("--unsigned",)
 
 
