@@ -33,9 +33,16 @@ class Signing:
     def sign(self, requests):
         """Those requests, signed at once by the next index."""
         index = int(self.indexes.read_text())
-        self.indexes.write_text(f"{index + 1}\n")
+        self.count(index + 1)
         made = signatures.sign_texts(self.key, index, [request.body for request in requests])
         return [messages.Signed(request, (), signature) for request, signature in zip(requests, made, strict=True)]
+
+    def count(self, number):
+        """It may be killed at any moment: a new file takes the old one's place."""
+        beside = self.indexes.with_suffix(".new")
+        beside.unlink(missing_ok=True)
+        keys.write_new(beside, f"{number}\n", 0o600)
+        beside.replace(self.indexes)
 
 
 verified = lru_cache(4_096)(signatures.verify_text)
