@@ -16,8 +16,8 @@ from lib import MEBIBYTE
 
 sys.path.insert(0, str(lib.TOP / "tools"))
 from service.testing.frames import REPLY, REQUEST, framed
-from service.testing.outsiders import OwnKeys, messages
-from service.testing.single import Single, only
+from service.testing.outsiders import messages
+from service.testing.single import Single, client, only
 
 SETTINGS = {"replica": "", "mebibytes": 256, "files": 60_000}
 CRATES = "bfs_model bfs_types bfs_auth bfs_log bfs_settings bfs_node bfs_steps bfs_journal anyhow sha2"
@@ -34,7 +34,7 @@ class Caller:
     """A client of one replica, which asks by whole turns."""
 
     def __init__(self, folder, single):
-        self.keys, self.single, self.timestamp, self.waiting = OwnKeys(f"{folder}/client-0.toml", 1), single, 0, []
+        self.keys, self.single, self.timestamp, self.waiting = client(folder, 0), single, 0, []
 
     def ask(self, procedure, arguments):
         self.timestamp += 1
@@ -129,7 +129,7 @@ def main(room, words):
     if not settings["replica"]:
         raise lib.Unknown("replica=PATH is missing")
     service = SimpleNamespace(folder=f"{room}/cluster", programs={"replica": settings["replica"]})
-    subprocess.run([sys.executable, lib.TOP / "tools/bfs", "keys", service.folder, "--f", "0", "--clients", "1"], check=True, stdout=subprocess.DEVNULL)
+    subprocess.run([sys.executable, lib.TOP / "tools/bfs", "keys", service.folder, "--f", "0", "--clients", "1", "--unsigned"], check=True, stdout=subprocess.DEVNULL)
     started(service, f"{room}/new", "--new").kill()
     parts = lib.program_of("recovery", room, CRATES, *words_of(service, f"{room}/new"))
     if settings["mebibytes"]:

@@ -14,7 +14,7 @@ OTHERS = "portmap", "patience", "signers", "limits"  # which may be missing; `pa
 MEBIBYTE = 1 << 20
 # the least limit of each kind of frame, in bytes, and the most; crates/bfs_deployment has them too
 LIMITS = {
-    "request": 17_400,
+    "request": 26_652,
     "order": 4 * MEBIBYTE,
     "view_change": 64 * MEBIBYTE,
     "new_view": 64 * MEBIBYTE,
@@ -140,9 +140,12 @@ def read_cluster(folder):
         raise Fault(f"{path}: {fault}") from None
 
 
+def text_of_signers(signers):
+    return "\n".join(["signers = [", *(f'    "{key.hex()}",' for key in signers), "]\n"]) if signers else ""
+
+
 def text_of(cluster):
     """The document that describes a cluster."""
     replicas = ", ".join(f'"{address}"' for address in cluster.replicas)
-    signers = "\n".join(["signers = [", *(f'    "{key.hex()}",' for key in cluster.signers), "]\n"]) if cluster.signers else ""
     relay = f'relay = "{cluster.relay}" # NFS version 2 and MOUNT, by TCP and UDP'
-    return f"f = {cluster.faults}\nclients = {cluster.clients}\nreplicas = [{replicas}]\n{relay}\n{signers}"
+    return f"f = {cluster.faults}\nclients = {cluster.clients}\nreplicas = [{replicas}]\n{relay}\n{text_of_signers(cluster.signers)}"

@@ -7,9 +7,8 @@ from pathlib import Path
 from service import signatures
 from service.cluster import Address, Fault, cluster_in, reason, text_of
 
-SIGNED = False  # whether a relay signs for its clients where nothing is said: not before it can
 KEY = 32  # bytes
-LEVELS = 10, 10, 10  # heights of a signing key's trees: it signs 2^30 times
+LEVELS = 10, 10, 10  # heights of a signing key's trees, where none are given: it signs 2^30 times
 HEIGHTS = 5, 10, 15  # which a tree may have
 
 
@@ -40,6 +39,7 @@ def documents(cluster):
 
 COUNTER = "relay.counter"  # the relay's next timestamp
 SIGNING_KEY = "relay.key"
+INDEXES = "relay.index"  # the key's next index; it is made with the key alone, so that a lost one is never taken for a new one
 NEW = "new"  # a file in a replica's folder that says that it has never run
 
 
@@ -74,6 +74,16 @@ def signing_key_in(document):
     return signatures.Key(bytes.fromhex(said["id"]), bytes.fromhex(said["seed"]), said["heights"])
 
 
+def signing_files(folder, cluster):
+    """The paths of the key by which a cluster's relay signs and of its next index; none where it signs nothing."""
+    if not cluster.signers:
+        return []
+    key, indexes = f"{folder}/{SIGNING_KEY}", f"{folder}/{INDEXES}"
+    if os.path.exists(key) and not os.path.exists(indexes):
+        raise Fault(f"{indexes}: it is lost, and so which indexes of {SIGNING_KEY} were used: that key is to sign no more (docs/SERVICE.md)")
+    return [private(key), private(indexes)]
+
+
 def write_new(path, text, mode):
     with open(os.open(path, os.O_WRONLY | os.O_CREAT | os.O_EXCL, mode), "w") as file:
         os.fchmod(file.fileno(), mode)
@@ -100,7 +110,7 @@ def make(folder, faults, clients, host, port, relay, heights=None):
     cluster = cluster_in({"f": faults, "clients": clients, "replicas": texts, "relay": relay})
     try:
         os.makedirs(folder, mode=0o700, exist_ok=True)
-        if old := sorted(path.name for path in Path(folder).iterdir() if path.suffix == ".toml" or path.name in (COUNTER, SIGNING_KEY, "replica-0")):
+        if old := sorted(path.name for path in Path(folder).iterdir() if path.suffix == ".toml" or path.name in (COUNTER, SIGNING_KEY, INDEXES, "replica-0")):
             raise Fault(f"{folder}: it has {old[0]}: nothing is written over")
         for number in range(len(cluster.replicas)):
             os.mkdir(f"{folder}/replica-{number}", mode=0o700)
@@ -111,6 +121,7 @@ def make(folder, faults, clients, host, port, relay, heights=None):
         if heights:
             document = signing_document(heights)
             write_new(Path(folder, SIGNING_KEY), document, 0o600)
+            write_new(Path(folder, INDEXES), "0\n", 0o600)
             cluster = cluster._replace(signers=(signing_key_in(document).public_key,) * clients)
         write_new(Path(folder, "cluster.toml"), text_of(cluster), 0o644)
     except OSError as fault:

@@ -212,7 +212,7 @@ fn terms_of(deployment: &Deployment) -> Terms {
     Terms::of(deployment.f(), deployment.patience(), &deployment.limits())
 }
 
-/// The keys of a replica of that cluster.
+/// The keys of a replica of that cluster, with the public keys of its clients, where these sign.
 fn keys_at<R: Runtime + AllocGlobal>(
     rt: &R,
     deployment: &Deployment,
@@ -222,7 +222,8 @@ fn keys_at<R: Runtime + AllocGlobal>(
     ensures clients { IfOk result (λ keys. length keys.clients ≤ most_clients) }
 {
     let document = fs::read(rt, path)?;
-    let keys = parse_keys(rt.alloc(), document.as_slice())?;
+    let signers = deployment.signers().to_vec(rt.alloc())?;
+    let keys = parse_keys(rt.alloc(), document.as_slice())?.with_signers(signers);
     let Some((f, _)) = keys.replica_of() else {
         return Err(Error::msg("these are not the keys of a replica"));
     };

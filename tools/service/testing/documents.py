@@ -7,7 +7,7 @@ from pathlib import Path
 
 from service import signatures
 from service.cluster import LIMITS, Address, Cluster, cluster_in, read_cluster
-from service.keys import SIGNING_KEY, signing_key_in
+from service.keys import COUNTER, INDEXES, LEVELS, SIGNING_KEY, signing_key_in
 from service.programs import TOP, TRANSPORT
 from service.testing.running import check
 
@@ -27,18 +27,22 @@ def pairs(service):
     check(modes == {0o600}, f"modes {modes}")
     folders = [Path(service.folder, f"replica-{number}") for number in range(4)]
     check(all(stat.S_IMODE(folder.stat().st_mode) == 0o700 and [each.name for each in folder.iterdir()] == ["new"] for folder in folders), "folders")
-    check(Path(service.folder, "relay.counter").read_text() == "0\n", "the relay's first timestamp is another")
-    check(not Path(service.folder, SIGNING_KEY).exists() and not read_cluster(service.folder).signers, "a relay signs that wasn't asked to")
+    check(Path(service.folder, COUNTER).read_text() == "0\n", "the relay's first timestamp is another")
+    there = any(Path(service.folder, name).exists() for name in (SIGNING_KEY, INDEXES))
+    check(not there and not read_cluster(service.folder).signers, "the relay signs in spite of --unsigned")
 
 
 def signed(service):
-    """A relay that signs has a private key, new each time, whose public key cluster.toml has for each client; and its signatures pass for that."""
+    """A relay that signs has a private key, new each time, whose public key cluster.toml has for each client; its signatures pass for that. It isn't run
+    where the file of the key's next index is lost, or others may write it."""
     folders = [f"{service.folder}-signed-{each}" for each in range(2)]
     for folder in folders:
         said, status = service.bfs("keys", folder, "--f", "0", "--clients", "3", "--heights", "5,5")
         check(status == 0 and SIGNING_KEY in said, said)
         path, cluster = Path(folder, SIGNING_KEY), read_cluster(folder)
-        check(stat.S_IMODE(path.stat().st_mode) == 0o600, "the signing key isn't private")
+        indexes = Path(folder, INDEXES)
+        check(all(stat.S_IMODE(each.stat().st_mode) == 0o600 for each in (path, indexes)), "the signing key or its next index isn't private")
+        check(indexes.read_text() == "0\n", "the key's first index is another")
         key = signing_key_in(path.read_text())
         check(cluster.signers == (key.public_key,) * 3, "the signers are others")
         texts = [b"a", b"b", b"c"]
@@ -49,6 +53,14 @@ def signed(service):
     check(not set(one.splitlines()[:2]) & set(other.splitlines()), "two keys have one id or seed")
     said, status = service.bfs("keys", folders[0], "--heights", "5,5")
     check(status == 1 and "nothing is written over" in said and Path(folders[0], SIGNING_KEY).read_text() == one, said)
+    for change, told in (
+        (lambda: indexes.chmod(0o660), "relay.index: others than its owner may read or write it"),
+        (indexes.unlink, "relay.index: it is lost"),
+        (path.unlink, "relay.key: No such file"),
+    ):
+        change()
+        said, status = service.bfs("relay", folders[1], "--relay-program=/bin/true")
+        check(status == 1 and told in said and said.count("\n") == 1, said)
     for words, told in (
         (["--heights", "5,6"], "--heights: '5,6' is no one to eight of 5, 10, 15"),
         (["--heights", "5,5,5,5,5,5,5,5,5"], "--heights: '5,5,5,5,5,5,5,5,5' is no one to eight"),
@@ -59,6 +71,9 @@ def signed(service):
         check(status == 1 and told in said and said.count("\n") == 1 and not Path(f"{service.folder}-none").exists(), said)
     said, status = service.bfs("keys", f"{service.folder}-none", "--f", "0", "--clients", "1", "--unsigned")
     check(status == 0 and SIGNING_KEY not in said and not read_cluster(f"{service.folder}-none").signers, said)
+    said, status = service.bfs("keys", usual := f"{service.folder}-usual", "--f", "0", "--clients", "1")
+    heights = signing_key_in(Path(usual, SIGNING_KEY).read_text()).below
+    check(status == 0 and heights == list(LEVELS[1:]) and len(read_cluster(usual).signers) == 1, f"{heights}: {said}")
 
 
 def others(_service):
@@ -114,7 +129,7 @@ def faults_of_cluster(service):
         ("clients = 8", "clients = 8\nsigners = []", "signers: there are to be 8 of them"),
         ("clients = 8", "clients = 8\nlimits = 1", "limits: 1 is no table"),
         ("clients = 8", "clients = 8\nlimits.orders = 1", "limits.orders: there is no such key"),
-        ("clients = 8", "clients = 8\nlimits.request = 17399", "limits.request: 17399 is no number from 17400 to 4294967295"),
+        ("clients = 8", "clients = 8\nlimits.request = 26651", "limits.request: 26651 is no number from 26652 to 4294967295"),
         ('relay = "127.0.0.1:', 'relay = "127.0.0.1:0', "relay: "),
         ('relay = "127.0.0.1:', 'relay = "', "relay: "),
         (f":{service.portmap[1]}", f":{service.relay[1]}", "replicas: two of these"),

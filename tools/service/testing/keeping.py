@@ -99,7 +99,7 @@ def others(service):
     single.ends()
     refused(service, folder, "it holds a replica", "--new")
     other = f"{service.folder}/other"
-    service.bfs("keys", other, "--f", "0", "--clients", "9")
+    service.bfs("keys", other, "--f", "0", "--clients", "9", "--heights", "5")
     of_another = type("Other", (), {"folder": other, "programs": service.programs})
     refused(of_another, folder, "the text is of a replica with other settings")
     saved = only(folder, "saved")
@@ -130,7 +130,7 @@ def full(service):
     """Where a disk is full the process ends, and says it; what it has told before is there when it is started again."""
     folder, client = worked(service, "full"), Asking(service)
     client.timestamp = REQUESTS
-    size = only(folder, "saved").stat().st_size + 4_000
+    size = only(folder, "saved").stat().st_size + 40_000
     limit = lambda: (signal.signal(signal.SIGXFSZ, signal.SIG_IGN), resource.setrlimit(resource.RLIMIT_FSIZE, (size, size)))
     single, last = Single(service, folder, prepare=limit), REQUESTS
     try:

@@ -7,7 +7,8 @@ import time
 from pathlib import Path
 
 from service.testing.frames import ASK_REPORT, REPLY, REPORT, REQUEST, framed
-from service.testing.outsiders import OwnKeys, messages
+from service.keys import INDEXES, SIGNING_KEY
+from service.testing.outsiders import OwnKeys, Signing, messages, read
 from service.testing.running import PATIENCE, check
 
 PARCEL = struct.Struct(">BQBI")  # to whom, the number, kind, length
@@ -64,11 +65,18 @@ class Single:
         return int(dict(word.partition("=")[::2] for word in report.decode().split())["executed"])
 
 
+def client(folder, number):
+    """The keys of a client, with those by which its relay signs."""
+    cluster = read(f"{folder}/cluster.toml")
+    signing = Signing(f"{folder}/{SIGNING_KEY}", f"{folder}/{INDEXES}") if "signers" in cluster else None
+    return OwnKeys(f"{folder}/client-{number}.toml", cluster, signing)
+
+
 class Asking:
     """A client of one replica."""
 
     def __init__(self, service):
-        self.keys, self.timestamp = OwnKeys(f"{service.folder}/client-0.toml", 8), 0
+        self.keys, self.timestamp = client(service.folder, 0), 0
 
     def ask(self, single):
         """Has a request executed, and gives its timestamp."""
