@@ -93,7 +93,7 @@ fn each_kind_passes_at_all_and_of_nobody_else(rt: HostRuntime) -> Result<(), Fai
         same!(rt; auth.signature().map(|bytes| bytes.len()), Some(4_764));
         holds!(rt; passes_at_all(&receivers, SENDER, &said, &auth));
         holds!(rt; !passes_somewhere(&receivers, 1, &said, &auth));
-        let other = text(tag, first, second + 1);
+        let other = text(tag, first, second.wrapping_add(1));
         holds!(rt; !passes_somewhere(&receivers, SENDER, &other, &auth));
         let again = sign(alloc, &mine, &said)?;
         holds!(rt; again.signature() == auth.signature());
