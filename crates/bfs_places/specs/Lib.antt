@@ -1,0 +1,3 @@
+-- What the contracts of bfs_places cite.
+pub mod Places
+pub mod Laws
