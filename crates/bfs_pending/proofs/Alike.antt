@@ -22,7 +22,8 @@ use Rattle.bfs_pending.specs.Requests.{is_same}
 -- what the check reads of a request
 read : Keys → (client timestamp : ℕ) → (call : List ℕ) → (entry signature : Option (List ℕ)) → Bool
 read keys client timestamp call entry signature =
-    is_right (public_key_of keys (Client client)) (shared_with keys (Client client)) (word 1 ++ (word client ++ hyper timestamp ++ counted call)) entry signature
+    let text = word 1 ++ (word client ++ hyper timestamp ++ counted call) in
+    is_right (public_key_of keys (Client client) text) (shared_with keys (Client client)) text entry signature
 
 request_read : (keys : Keys) (one : Signed Request) → request_is_signed keys one
     ≡ read keys one.message.client one.message.timestamp one.message.call (entry_for keys.me one.auth) (signature_in one.auth)
