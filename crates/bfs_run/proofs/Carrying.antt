@@ -69,7 +69,7 @@ use Rattle.bfs_nodes_agree.proofs.Public.{after_deeds, AllIn, AreKept, AreSo, be
 
 -- by these keys nothing passes
 abbrev no_keys : Keys
-no_keys = record { me = principal.Client 0; replicas = []; clients = []; signers = [] }
+no_keys = record { me = principal.Client 0; replicas = []; clients = []; signers = []; replica_signers = []; signer = None }
 
 none_at : (n : ℕ) → slice_get (no_keys.clients) n ≡ None
 none_at zero = refl
