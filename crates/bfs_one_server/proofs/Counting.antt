@@ -1,31 +1,21 @@
 -- A result that a client accepts was sent by a correct replica.
 use Rattle.std.proofs.Common.{◌≡◌, ◌≢◌, ◌∙◌, ℕ, zero, suc, ◌+◌, ◌<◌, ◌≤◌, Bool, true, false, cond, ◌&&◌, not, List, [], ◌∷◌, ◌++◌, ◌⊎◌, length, Some, None, Option, option_map, inl, inr, refl, sym, ap, subst, arith}
-use Rattle.std.specs.Prelude.{◌==◌, bytes_eq, fold, nat_lt, option_and_then, if◌then◌else◌}
-use Rattle.std.specs.List.{count_by, find, slice_get}
+use Rattle.std.specs.Prelude.{◌==◌, bytes_eq, fold}
+use Rattle.std.specs.List.{count_by, find}
 use Rattle.std.proofs.lemmas.Bool.{and_parts, cases_Bool, cases_eq, cases_lt, cond_both, eq-eqb, eqb-true, leb-true}
 use Rattle.std.proofs.lemmas.List.Sums.{sum_by-cons}
-use Rattle.std.proofs.lemmas.Nat.{from_be_bytes-to_be_bytes_4}
-use Rattle.std.proofs.lemmas.Option.{slice_get_within}
 use Rattle.std.proofs.lemmas.Slice.Eq.{bytes_eq-Decides}
-use Rattle.lms.specs.Bytes.{word_at}
-use Rattle.bfs_model.specs.Bytes.Items.{word}
-use Rattle.bfs_votes.specs.Tags.{reply_tag}
 use Rattle.bfs_votes.specs.Votes.{count_below}
-use Rattle.bfs_auth.specs.Authenticators.{entry_for, is_hash, is_right, passes, signature_in}
-use Rattle.bfs_auth.specs.Places.{place_by, place_in}
-use Rattle.bfs_auth.specs.declared.places.Place.{Place}
 use Rattle.bfs_auth.specs.Keys.{Keys}
-use Rattle.bfs_auth.specs.declared.pairwise.SharedKeys.{SharedKeys}
-use Rattle.bfs_messages.specs.Batches.{reply_text}
 use Rattle.bfs_messages.specs.Messages as model
 use Rattle.bfs_messages.specs.Signing.{is_signed}
-use Rattle.bfs_messages.specs.Spelling.{body_text}
 use Rattle.bfs_messages.specs.declared.signed.Signed.{Signed}
 use Rattle.bfs_messages.specs.declared.message.Message.{Message}
 use Rattle.bfs_messages.specs.declared.message.Message.TheVariants.{Reply}
 use Rattle.bfs_agreement.specs.Histories.{IsIn}
 use Rattle.bfs_clients.specs.Clients.{Clients, keys_at}
 use Rattle.bfs_clients.specs.Tallies.{Counted, Tally, agreed, has_counted, is_agreed, is_signed_by, is_wanted, no_replies, reply_is_signed, result_to, senders_of, tallied_as, tallied_by, tally_of, with_reply}
+use Rattle.bfs_clients.proofs.Public.{sender_below}
 use Rattle.bfs_nodes_agree.proofs.Public.{AllIn, any_in, both_in, found, more_in, none_in, one_in, some_is}
 
 -- Counting senders ----------------------------------------------------------------------------------------------------------
@@ -210,36 +200,6 @@ agreed_so tally r e = go (find (is_agreed tally) tally.counted) refl e
     go (Some one) is h =
         let enough = leb-true (tally.f + 1) (senders_of tally.counted one.result) (found (is_agreed tally) tally.counted one is).1 in
         subst (λ (x : List ℕ). tally.f + 1 ≤ senders_of tally.counted x) (some_is one.result r h) enough
-
--- a REPLY is of no place: replicas sign none
-if_either : (t : Bool) (p : Option Place) → (if t then p else p) ≡ p
-if_either true p = refl
-if_either false p = refl
-
-reply_tagged : (rest : List ℕ) → word_at 0 (word reply_tag ++ rest) ≡ reply_tag
-unfolding word
-reply_tagged rest = from_be_bytes-to_be_bytes_4 reply_tag (omega arith)
-
-reply_of_no_place : (reply : model.Reply) → place_in (body_text (Reply reply)) ≡ None
-unfolding place_in
-reply_of_no_place reply =
-    let bytes = word reply_tag ++ reply_text reply in
-    ap (λ (p : Option Place). if nat_lt (length bytes) 16 then None else p) (ap (λ t. place_by t bytes) (reply_tagged (reply_text reply)))
-    ∙ if_either (nat_lt (length bytes) 16) None
-
--- who shares a key with a client has a number among the replicas
-sender_below : (keys : Keys) (m : Signed Message) (reply : model.Reply) → m.message ≡ Reply reply → is_signed keys m ≡ true → reply.sender < length keys.replicas
-unfolding passes
-sender_below keys m reply is signed =
-    let text = body_text (Reply reply) in
-    let shared = slice_get keys.replicas reply.sender in
-    go shared refl
-    (sym (ap (λ (p : Option Place). is_right (option_and_then (λ place. slice_get keys.replica_signers reply.sender) p) shared text (entry_for keys.me m.auth) (signature_in m.auth)) (reply_of_no_place reply))
-    ∙ (sym (ap (λ (x : Message). is_signed keys (record { message = x; auth = m.auth })) is) ∙ signed))
-  where
-    go : (o : Option SharedKeys) → slice_get keys.replicas reply.sender ≡ o → is_hash o (body_text (Reply reply)) (entry_for keys.me m.auth) ≡ true → reply.sender < length keys.replicas
-    go None e h = absurd cc
-    go (Some shared) e h = slice_get_within keys.replicas reply.sender shared e
 
 -- a message that came is a correct replica's REPLY with that result
 pub record FromCorrect (faulty : ℕ → Bool) (clients : Clients) (c t : ℕ) (r : List ℕ) (messages : List (Signed Message)) : Type 0 where
