@@ -49,8 +49,8 @@ class Address(NamedTuple):
 
 
 class Cluster(NamedTuple):
-    """At most `faults` of the replicas may fail; the relay is where kernels send their calls, and `portmap` where they may ask for its port. Signers are clients'
-    public keys, by the clients' numbers, or none."""
+    """At most `faults` of the replicas may fail; the relay is where kernels send their calls, and `portmap` where they may ask for its port. Signers are
+    public keys of clients, by their numbers, or none."""
 
     faults: int
     clients: int

@@ -1,5 +1,5 @@
-"""Signatures of hashes alone (HSS over LMS and LM-OTS, RFC 8554, with SHA-256), by which a relay signs; and one signature for all texts of a turn. It is written
-by the standard, apart from crates/lms, and tests compare the two. Run by itself it checks signatures that Bouncy Castle made, and prints `ok`."""
+"""Signatures of hashes alone (HSS over LMS and LM-OTS, RFC 8554, with SHA-256), by which a relay signs; and one signature for all texts of a turn. It is
+written by the standard, apart from crates/lms, and tests compare the two. Run by itself it checks signatures that Bouncy Castle made, and prints `ok`."""
 import hashlib
 import struct
 import sys

@@ -2,9 +2,10 @@
 use Rattle.std.specs.Prelude.{◌≡◌, ◌≤◌, ℕ, Bool, false, List, [], ◌∷◌, map, length, Option, Some, None, slice_get, bytes_eq, All}
 use Rattle.std.specs.Option.{option_map}
 use Rattle.bfs_model.specs.Server.Limits.{most_replicas}
+use Rattle.bfs_signatures.specs.Signature.{is_signature}
 use Rattle.bfs_auth.specs.Hmac.{hmac_sha256}
 use Rattle.bfs_auth.specs.Keys.{Keys, public_key_of, shared_with}
-use Rattle.bfs_auth.specs.Signatures.{is_signature, most_signature_bytes}
+use Rattle.bfs_auth.specs.Signatures.{most_signature_bytes}
 use Rattle.bfs_auth.specs.declared.authenticators.Authenticator.{Authenticator}
 use Rattle.bfs_auth.specs.declared.authenticators.Authenticator.TheVariants.{Hashes, Signature}
 use Rattle.bfs_auth.specs.declared.principals.Principal.{Principal}

@@ -23,7 +23,7 @@ default_patience = 2000
 abbrev pub most_patience : ℕ
 most_patience = 60000
 
--- there are signers or none
+-- one signer for each client, or none at all
 abbrev pub OneEach : (clients signers : ℕ) → Type 0
 OneEach clients signers = 0 < signers → signers ≡ clients
 

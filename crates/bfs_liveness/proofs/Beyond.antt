@@ -1,85 +1,28 @@
 -- No correct node has executed a number that the primary of its view has yet to propose.
-use Rattle.std.proofs.Common.{◌≡◌, ℕ, ◌<◌, ◌≤◌, ◌==◌, max, Bool, false, List, [], ◌∷◌, ◌++◌, ◌⊎◌, Option, Some, None, inl, inr, refl, sym, ap, subst, ◌∙◌, arith}
-use Rattle.std.proofs.lemmas.Bool.{cases_lt, cond_both}
+use Rattle.std.proofs.Common.{◌≡◌, ℕ, ◌<◌, max, Bool, false, List, inl, inr, sym, ap, subst, ◌∙◌, arith}
+use Rattle.std.proofs.lemmas.Bool.{cases_lt}
 use Rattle.bfs_log.specs.Headers.{header}
-use Rattle.bfs_log.specs.Logs.{Log}
-use Rattle.bfs_messages.specs.declared.order_messages.OrderMessage.{OrderMessage}
-use Rattle.bfs_messages.specs.declared.signed.Signed.{Signed}
-use Rattle.bfs_order.specs.Laws.Calls.{Call, Takes, Proposes, Executes, Checkpoints, Installs, Leaves, Enters, execution, outcome}
-use Rattle.bfs_order.specs.Replica.Accepting.{accepted}
-use Rattle.bfs_order.specs.Replica.Checkpoints.{checkpoint_refusal, checkpointed}
-use Rattle.bfs_order.specs.Replica.Executing.{next_order}
-use Rattle.bfs_order.specs.Replica.Installing.{install_refusal, installed}
-use Rattle.bfs_order.specs.Replica.Proposing.{next_number, proposal_refusal, proposed}
-use Rattle.bfs_order.specs.Replica.Refusals.{refusal}
+use Rattle.bfs_order.specs.Replica.Proposing.{next_number}
 use Rattle.bfs_order.specs.Replica.States.{State, known}
-use Rattle.bfs_order.specs.Replica.Views.{entered, entering_refusal, leaving_refusal, left}
+use Rattle.bfs_order.specs.Replica.Views.{entered}
 use Rattle.bfs_votes.specs.Votes.{Told, primary}
-use Rattle.bfs_agreement.specs.Histories.{Execution, HasSaid, IsIn}
+use Rattle.bfs_agreement.specs.Histories.{Execution, HasSaid}
 use Rattle.bfs_agreement.specs.Laws.{Carries, QuorumsAreCarried}
 use Rattle.bfs_agreement.specs.Moves.{AreAllowed, Step, after_steps, new_world}
 use Rattle.bfs_agreement.proofs.Public.{run_sound, start_sound}
 use Rattle.bfs_nodes_agree.specs.Nodes.Laws.{StepsAreTurns, TurnsMayBeTaken, Tracks}
 use Rattle.bfs_nodes_agree.specs.Nodes.Replicas.{Beginning, Keyring, NodeReplicas, NodeTurn, new_node_replicas, ordered_turns}
-use Rattle.bfs_nodes_agree.specs.Orders.Replicas.{OrderReplica, OrderReplicas, OrderDeed, after_order_deed, after_order_turn, call_of, executed_by, message_in, new_order_replicas}
-use Rattle.bfs_nodes_agree.specs.Views.Replicas.{ViewTurn, after_view_turns, ordered_turn}
+use Rattle.bfs_nodes_agree.specs.Orders.Replicas.{OrderReplica, OrderReplicas, call_of, new_order_replicas}
+use Rattle.bfs_nodes_agree.specs.Views.Replicas.{after_view_turns}
 use Rattle.bfs_nodes_agree.proofs.Public.{IsFollowed, all_turns, either_way, entered_same, low_rises, new_followed, next_found, right_in, told_same}
 use Rattle.bfs_nodes_agree.proofs.Public as agree
 use Rattle.bfs_nodes_progress.specs.Inside.Below.{Below}
 use Rattle.bfs_nodes_progress.specs.Runs.{IsARun, order_of, reached}
 use Rattle.bfs_nodes_progress.proofs.Public.{always, low_there, responds, told_here, told_world, view_there}
 use Rattle.bfs_liveness.specs.LawsOfExecuting.{NoneIsBeyond}
+use Rattle.bfs_liveness.proofs.Executions.{EachRan, each_by, turns_keep}
 use Rattle.bfs_liveness.proofs.Filled.{told_le}
 use Rattle.bfs_liveness.proofs.Past.{have_past}
-
--- The number last executed --------------------------------------------------------------------------------------------
-
--- it is not above the low mark, or its batch was executed
-abbrev Ran : State → (executed : Log) → Type 0
-Ran s executed = (s.last ≤ s.low) ⊎ ((m : Signed OrderMessage) × IsIn m executed × ((header m).number ≡ s.last))
-
-still_ran : (s now : State) (executed : Log) → s.low ≤ now.low → (now.last ≡ s.last) ⊎ (now.last ≤ now.low) → Ran s executed → Ran now executed
-still_ran s now executed rises stays ran = elim stays [
-  | inl same ↦ elim ran [ inl low ↦ inl (omega (arith, same, low, rises)) | inr m ↦ inr (m.0, m.1, m.2 ∙ sym same) ]
-  | inr low ↦ inl low
-]
-
--- but by executing it rises only to a stable one
-last_stays : (s : State) (call : Call) → (call ≡ Executes → ⊥) → ((outcome s call).now.last ≡ s.last) ⊎ ((outcome s call).now.last ≤ (outcome s call).now.low)
-last_stays s (Takes keys m) other = inl (either_way (λ o. o.now.last ≡ s.last) (refusal keys s m) s (accepted keys s m) (λ _. refl) refl)
-last_stays s (Proposes keys batch) other = inl (either_way (λ o. o.now.last ≡ s.last) (proposal_refusal s) s (proposed keys s batch) (λ _. refl) refl)
-last_stays s Executes other = absurd (other refl)
-last_stays s (Checkpoints keys n d) other = inl (either_way (λ o. o.now.last ≡ s.last) (checkpoint_refusal s n) s (checkpointed keys s n d) (λ _. refl) refl)
-last_stays s (Installs keys c) other = either_way (λ o. (o.now.last ≡ s.last) ⊎ (o.now.last ≤ o.now.low)) (install_refusal keys s c) s (installed s c)
-    (λ _. elim (cases_lt s.last c.number) [ inl lt ↦ inr (omega (arith, lt)) | inr le ↦ inl (omega (arith, le)) ]) (inl refl)
-last_stays s (Leaves view) other = inl (either_way (λ o. o.now.last ≡ s.last) (leaving_refusal s view) s (left s view) (λ _. refl) refl)
-last_stays s (Enters keys view stable handed) other = inl (either_way (λ o. o.now.last ≡ s.last) (entering_refusal s view) s (entered keys s view stable handed)
-    (λ _. entered_same (λ (x : State). x.last) (λ x low log. refl) keys s view stable handed) refl)
-
-by_call : (s : State) (executed : Log) (call : Call) → Ran s executed → Ran (outcome s call).now (executed_by s call ++ executed)
-by_call s executed Executes ran = go (next_order s) refl
-  where
-    go : (o : Option (Signed OrderMessage)) → next_order s ≡ o → Ran (execution s o).now (message_in o ++ executed)
-    go None is = ran
-    go (Some m) is = inr (m, inl refl, (next_found s m is).1)
-by_call s executed (Takes keys m) ran = still_ran s (outcome s (Takes keys m)).now executed (low_rises s (Takes keys m)) (last_stays s (Takes keys m) (λ e. absurd cc)) ran
-by_call s executed (Proposes keys batch) ran = still_ran s (outcome s (Proposes keys batch)).now executed (low_rises s (Proposes keys batch)) (last_stays s (Proposes keys batch) (λ e. absurd cc)) ran
-by_call s executed (Checkpoints keys n d) ran = still_ran s (outcome s (Checkpoints keys n d)).now executed (low_rises s (Checkpoints keys n d)) (last_stays s (Checkpoints keys n d) (λ e. absurd cc)) ran
-by_call s executed (Installs keys c) ran = still_ran s (outcome s (Installs keys c)).now executed (low_rises s (Installs keys c)) (last_stays s (Installs keys c) (λ e. absurd cc)) ran
-by_call s executed (Leaves view) ran = still_ran s (outcome s (Leaves view)).now executed (low_rises s (Leaves view)) (last_stays s (Leaves view) (λ e. absurd cc)) ran
-by_call s executed (Enters keys view stable handed) ran =
-    still_ran s (outcome s (Enters keys view stable handed)).now executed (low_rises s (Enters keys view stable handed)) (last_stays s (Enters keys view stable handed) (λ e. absurd cc)) ran
-
-abbrev HasRun : OrderReplica → Type 0
-HasRun o = Ran o.state o.executed
-
--- what holds of an order after each deed holds after turns
-pub turns_keep : (P : OrderReplica → Type 0) → ((o : OrderReplica) (deed : OrderDeed) → P o → P (after_order_deed o deed)) → (turns : List ViewTurn) (v : OrderReplicas) → ((k : ℕ) → P (v k)) → (k : ℕ) → P (after_view_turns v turns k)
-turns_keep P keeps [] v all = all
-turns_keep P keeps (turn ∷ turns) v all =
-    let i = turn.who in
-    let deed = (ordered_turn v turn).deed in
-    turns_keep P keeps turns (after_order_turn v (ordered_turn v turn)) (λ k. cond_both (k == i) (after_order_deed (v i) deed) (v k) P (λ _. keeps (v i) deed (all i)) (λ _. all k))
 
 -- A world of moves ----------------------------------------------------------------------------------------------------
 
@@ -90,7 +33,7 @@ record IsMoved (f : ℕ) (faulty : ℕ → Bool) (w : NodeReplicas) : Type 0 whe
   allowed : AreAllowed f faulty new_world steps
   followed : IsFollowed f orders (after_steps f new_world steps)
   tracks : (k : ℕ) → Tracks (w k) (orders k)
-  ran : (k : ℕ) → HasRun (orders k)
+  ran : (k : ℕ) → EachRan (orders k).state (orders k).executed
 
 moved_so : Below → StepsAreTurns → TurnsMayBeTaken → (f : ℕ) (keys : Keyring) (start : Beginning) (faulty : ℕ → Bool) (turns : List NodeTurn) → IsARun f keys start faulty turns → IsMoved f faulty (reached f keys start turns)
 moved_so laws are may f keys start faulty turns run =
@@ -104,7 +47,7 @@ moved_so laws are may f keys start faulty turns run =
       allowed = moves.1;
       followed = subst (λ (v : OrderReplicas). IsFollowed f v (after_steps f new_world moves.0)) ordered.2 moves.2;
       tracks = are f keys start turns;
-      ran = turns_keep HasRun (λ o deed ran. by_call o.state o.executed (call_of deed) ran) list first (λ k. inl (omega arith));
+      ran = turns_keep (λ (o : OrderReplica). EachRan o.state o.executed) (λ o deed ran. each_by o.state o.executed (call_of deed) ran) list first (λ k n above under. absurd (omega (arith, above, under)));
     }
 
 -- Not beyond ----------------------------------------------------------------------------------------------------------
@@ -154,38 +97,35 @@ none_is_beyond laws are may carried f keys start faulty turns view k run correct
     let handed_p : (t p).now.handed ≡ max (order_of w p).min_s (order_of w p).handed = there_p.handed ∙ ap (λ (s : State). max s.min_s s.handed) at_p in
     let low_is = ap (λ (s : State). s.low) at_k in
     let last_is = ap (λ (s : State). s.last) at_k in
-    elim (moved.ran k) [
-      | inl low ↦ absurd (omega (arith, low, low_is, last_is, over))
-      | inr ran ↦
-          let h = header ran.0 in
-          let exec = (moved.followed k).follows.executed ran.0 ran.1 in
-          let x : Execution = record { proposal = h; log = exec.0 } in
-          let kept = (past k correct).executed x exec.1 in
-          let number : h.number ≡ (order_of w k).last = ran.2 ∙ last_is in
-          elim kept.there [
-            | inl low ↦ absurd (omega (arith, low, number, low_k, over))
-            | inr told ↦ elim (cases_lt h.view view) [
-              | inl earlier ↦
-                  let backed = (sound.executions k x exec.1).1 in
-                  let carries : Carries f faulty t h.view h.number h.digest view = carried f faulty moved.steps h.view h.number view h.digest run.few moved.allowed backed in
-                  elim (past p leads).current [
-                    | inl zero ↦ absurd (omega (arith, zero, view_p, earlier))
-                    | inr r ↦ elim (cases_lt r.0.min_s h.number) [
-                      | inl above ↦
-                          let told_r = carries p r.0 leads r.1.entry (r.1.view ∙ view_p) above earlier in
-                          let top = ((sound.entered p r.0 r.1.entry).choice.within p view h.number h.digest told_r).1 in
-                          let is = r.1.top in
-                          omega (arith, top, is, handed_p, number)
-                      | inr behind ↦ let is = r.1.min_s in omega (arith, behind, is, min_s_p, number)
-                    ]
-                  ]
-              | inr late ↦
-                  let early = kept.earlier in
-                  let same : h.view ≡ view = omega (arith, late, early, view_k) in
-                  let there : Told (t k).now.log 2 p view h.number h.digest = subst (λ (u : ℕ). Told (t k).now.log 2 (primary f u) u h.number h.digest) same told in
-                  let here = subst (λ (s : State). Told (known s) 2 p view h.number h.digest) at_k (told_same (known (moved.orders k).state) (t k).now.log there_k.log 2 p view h.number h.digest (omega arith) ∙ there) in
-                  let before = proposed_before laws f keys start faulty turns view k h.number h.digest run leads entered_p here in
-                  omega (arith, before, number)
+    let ran = moved.ran k (order_of w k).last (omega (arith, low_is, over)) (omega (arith, last_is)) in
+    let h = header ran.0 in
+    let exec = (moved.followed k).follows.executed ran.0 ran.1 in
+    let x : Execution = record { proposal = h; log = exec.0 } in
+    let kept = (past k correct).executed x exec.1 in
+    let number : h.number ≡ (order_of w k).last = ran.3 in
+    elim kept.there [
+      | inl low ↦ absurd (omega (arith, low, number, low_k, over))
+      | inr told ↦ elim (cases_lt h.view view) [
+        | inl earlier ↦
+            let backed = (sound.executions k x exec.1).1 in
+            let carries : Carries f faulty t h.view h.number h.digest view = carried f faulty moved.steps h.view h.number view h.digest run.few moved.allowed backed in
+            elim (past p leads).current [
+              | inl zero ↦ absurd (omega (arith, zero, view_p, earlier))
+              | inr r ↦ elim (cases_lt r.0.min_s h.number) [
+                | inl above ↦
+                    let told_r = carries p r.0 leads r.1.entry (r.1.view ∙ view_p) above earlier in
+                    let top = ((sound.entered p r.0 r.1.entry).choice.within p view h.number h.digest told_r).1 in
+                    let is = r.1.top in
+                    omega (arith, top, is, handed_p, number)
+                | inr behind ↦ let is = r.1.min_s in omega (arith, behind, is, min_s_p, number)
+              ]
             ]
-          ]
+        | inr late ↦
+            let early = kept.earlier in
+            let same : h.view ≡ view = omega (arith, late, early, view_k) in
+            let there : Told (t k).now.log 2 p view h.number h.digest = subst (λ (u : ℕ). Told (t k).now.log 2 (primary f u) u h.number h.digest) same told in
+            let here = subst (λ (s : State). Told (known s) 2 p view h.number h.digest) at_k (told_same (known (moved.orders k).state) (t k).now.log there_k.log 2 p view h.number h.digest (omega arith) ∙ there) in
+            let before = proposed_before laws f keys start faulty turns view k h.number h.digest run leads entered_p here in
+            omega (arith, before, number)
+      ]
     ]

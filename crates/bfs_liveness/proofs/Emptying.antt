@@ -1,5 +1,5 @@
 -- A full window is emptied: all of it is executed, and the checkpoint at its end becomes stable at the primary.
-use Rattle.std.proofs.Common.{◌≡◌, ℕ, zero, suc, ◌+◌, ◌-◌, ◌*◌, ◌%◌, ◌<◌, ◌≤◌, ◌==◌, Bool, true, false, cond, not, List, [], ◌∷◌, ◌++◌, Option, Some, None, option_map, inl, inr, refl, sym, ap, subst, ◌∙◌, append_assoc, append-nil, arith}
+use Rattle.std.proofs.Common.{◌≡◌, ℕ, ◌+◌, ◌-◌, ◌*◌, ◌%◌, ◌<◌, ◌≤◌, ◌==◌, Bool, true, false, cond, not, List, [], ◌∷◌, ◌++◌, Option, Some, None, option_map, inl, inr, refl, sym, ap, subst, ◌∙◌, append_assoc, append-nil, arith}
 use Rattle.std.specs.Prelude.{is_some}
 use Rattle.std.proofs.lemmas.Bool.{cases_Bool, cases_lt, eq-eqb, eqb-true, le-leb}
 use Rattle.bfs_checkpoints.specs.Snapshots.{snapshot_of}
@@ -25,21 +25,21 @@ use Rattle.bfs_nodes_agree.specs.Nodes.Laws.{BatchesDontCollide, NodesAgree, Ste
 use Rattle.bfs_nodes_agree.specs.Nodes.Premises.{StatesDontCollide}
 use Rattle.bfs_nodes_agree.specs.Nodes.Replicas.{Beginning, Keyring, NodeReplica, NodeReplicas, NodeTurn, after_node_step, after_node_turn, after_node_turns, new_node_replicas, ordered_turns}
 use Rattle.bfs_nodes_agree.specs.Nodes.Resending.{WhatIsResentIsFair}
-use Rattle.bfs_nodes_agree.specs.Nodes.Steps.{Checkpoints, Executes, or_still, outcome, unless}
+use Rattle.bfs_nodes_agree.specs.Nodes.Steps.{Checkpoints, or_still, outcome, unless}
 use Rattle.bfs_nodes_agree.specs.Orders.Replicas.{call_of, new_order_replicas}
 use Rattle.bfs_nodes_agree.proofs.Public.{at_in, here_after, in_map}
-use Rattle.bfs_nodes_progress.specs.Executing.{AreCommitted, executing}
+use Rattle.bfs_nodes_progress.specs.Executing.{AreCommitted}
 use Rattle.bfs_nodes_progress.specs.Inside.Below.{Below}
 use Rattle.bfs_nodes_progress.specs.Members.{is_committed}
 use Rattle.bfs_nodes_progress.specs.Requests.{executions}
 use Rattle.bfs_nodes_progress.specs.Runs.{IsARun, order_of, reached}
-use Rattle.bfs_nodes_progress.proofs.Public.{AreOf, after_join, after_so_many, always, each_once, proposed_in, same_f, same_me, told_world}
+use Rattle.bfs_nodes_progress.proofs.Public.{AreOf, after_join, always, each_once, same_f, same_me}
 use Rattle.bfs_liveness.specs.Exchanges.{all_execute, all_tell, emptying, three_exchanges, told_to}
 use Rattle.bfs_liveness.specs.Even.{AreEven}
 use Rattle.bfs_liveness.specs.LawsOfExecuting.{FullWindowsAreEmptied, IsEmptied, IsFull, IsSettled, NoneIsBeyond, NoneIsLeftOut, WhatIsStableIsSettled}
 use Rattle.bfs_liveness.specs.Ways.{AreFairTo, IsWay, MayTake}
-use Rattle.bfs_liveness.proofs.Beyond.{turns_keep}
 use Rattle.bfs_liveness.proofs.Digests.{same_digests}
+use Rattle.bfs_liveness.proofs.Executions.{IsExecuted, executed_to, live_files, turns_keep}
 use Rattle.bfs_liveness.proofs.Filled.{greatest_under}
 use Rattle.bfs_liveness.proofs.Hearing.{HasHeardAll, IsHearing, all_heard, hearing_nothing}
 use Rattle.bfs_liveness.proofs.Lists.{out_of_each, out_of_where}
@@ -48,42 +48,6 @@ use Rattle.bfs_liveness.proofs.Settled.{among}
 use Rattle.bfs_liveness.proofs.Steps.{Goes, HaveExchanged, commits, even_on, goes_by, thrice}
 use Rattle.bfs_liveness.proofs.Told.{HasTaken, IsToldBy, both_taken, tells_it}
 use Rattle.bfs_liveness.proofs.Ways.{passes_now, ways_join}
-
--- Executing up to a number --------------------------------------------------------------------------------------------
-
-executed_there : (w : NodeReplicas) (k count : ℕ) → (after_node_turns w (executions k count) k).node ≡ executing count (w k).node
-executed_there w k zero = refl
-executed_there w k (suc count) =
-    let one : NodeTurn = record { who = k; step = Executes } in
-    let before = executions k count in
-    ap (λ (x : NodeReplicas). (x k).node) (after_join w before (one ∷ [])) ∙ ap (λ (r : NodeReplica). r.node) (here_after (after_node_turns w before) one)
-    ∙ ap (λ (n : Node). (outcome n Executes).now) (executed_there w k count)
-
--- nothing else of its order changes
-record IsExecuted (s : State) (number : ℕ) (node : Node) : Type 0 where
-  order : node.order ≡ record s { last = number }
-  live : is_some node.files ≡ true
-
-executed_to : Below → (f : ℕ) (keys : Keyring) (start : Beginning) (faulty : ℕ → Bool) (turns : List NodeTurn) → IsARun f keys start faulty turns → (k number : ℕ) → faulty k ≡ false
-    → is_some (reached f keys start turns k).node.files ≡ true → (order_of (reached f keys start turns) k).last ≤ number
-    → AreCommitted (reached f keys start turns k).node (number - (order_of (reached f keys start turns) k).last)
-    → IsExecuted (order_of (reached f keys start turns) k) number (after_node_turns (reached f keys start turns) (executions k (number - (order_of (reached f keys start turns) k).last)) k).node
-executed_to laws f keys start faulty turns run k number correct live behind all =
-    let w = reached f keys start turns in
-    let node = (w k).node in
-    let s = node.order in
-    let count = number - s.last in
-    let led = always laws f faulty run.others run.few keys start turns run.shared run.authentic in
-    let kept = led.facts.sound.kept k correct in
-    let q = primary s.f s.view in
-    let there = λ (n : ℕ) (d : List ℕ) (x : Told (known s) 2 q s.view n d). told_world f faulty w led.orders led.world led.facts k 2 q s.view n d (omega arith) x in
-    let after = after_so_many node count live all (λ n d ready e x. kept.single 2 q s.view n e d (there n e x) (there n d (proposed_in s n d ready))) count (omega arith) in
-    let sum : s.last + count ≡ number = omega (arith, behind) in
-    let is = executed_there w k count in
-    record {
-      order = ap (λ (n : Node). n.order) is ∙ after.order_is ∙ ap (λ (n : ℕ). record s { last = n }) sum;
-      live = ap (λ (n : Node). is_some n.files) is ∙ after.live;
-    }
 
 -- Telling a checkpoint ------------------------------------------------------------------------------------------------
 
@@ -118,7 +82,7 @@ tells_so node files is multiple = go ((node.order.last % checkpoint_interval) ==
     go b o so e r = subst (λ (x : Option NodeError). IsTelling node files r (unless (cond (not b) (Some error.OutsideMarks) x) node (or_still node (option_map (tells.checkpointed node) node.files))).now) (sym (same r)) (by_parts b node.files so e r)
 
 module _ (f : ℕ) (members : ℕ → Bool) where
-  only_tells : (turn : NodeTurn) → IsIn turn (all_tell f members) → (members turn.who ≡ true) × (turn.step ≡ Checkpoints)
+  pub only_tells : (turn : NodeTurn) → IsIn turn (all_tell f members) → (members turn.who ≡ true) × (turn.step ≡ Checkpoints)
   only_tells turn i =
       let to = out_of_each (λ k. cond (members k) (record { who = k; step = Checkpoints } ∷ []) []) (replicas f) turn i in
       let there = out_of_where (members to.0) (record { who = to.0; step = Checkpoints } ∷ []) turn to.2 in
@@ -265,10 +229,6 @@ module _ (laws : Below) (again : WhatIsResentIsFair) (left_out : NoneIsLeftOut) 
     taken : HasTaken end (order_of w2 k) (order_of w3 k)
     has : has_slot (known (order_of w3 k)) 5 (order_of w3 k).me 0 end ≡ true
     live : is_some (w3 k).node.files ≡ true
-
-  live_files : (o : Option FileSystem) → is_some o ≡ true → (x : FileSystem) × (o ≡ Some x)
-  live_files None e = absurd cc
-  live_files (Some x) e = (x, refl)
 
   told_here : (k : ℕ) → members k ≡ true → HasTold k
   told_here k x =

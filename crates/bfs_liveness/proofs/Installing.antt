@@ -1,5 +1,5 @@
 -- A certificate that is installed proposes nothing.
-use Rattle.std.proofs.Common.{◌≡◌, ℕ, ◌+◌, ◌≤◌, max, Bool, true, false, cond, List, refl, sym, ◌∙◌, arith}
+use Rattle.std.proofs.Common.{◌≤◌, Bool, true, false, cond, refl, sym, ◌∙◌, arith}
 use Rattle.std.specs.Prelude.{nat_lt}
 use Rattle.std.specs.List.{list_all}
 use Rattle.std.proofs.lemmas.Bool.{and_parts}

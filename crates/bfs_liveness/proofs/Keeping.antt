@@ -45,7 +45,7 @@ use Rattle.bfs_view_change.specs.Changes.ViewChanges.{messages_of}
 
 -- What is settled -----------------------------------------------------------------------------------------------------
 
-in_filter : {A : Type 0} (p : A → Bool) (xs : List A) (x : A) → IsIn x xs → p x ≡ true → IsIn x (filter p xs)
+pub in_filter : {A : Type 0} (p : A → Bool) (xs : List A) (x : A) → IsIn x xs → p x ≡ true → IsIn x (filter p xs)
 in_filter p [] x i e = absurd i
 in_filter {A} p (y ∷ ys) x i e = elim i [
   | inl same ↦ subst (λ (b : Bool). IsIn x (cond b (y ∷ filter p ys) (filter p ys))) (sym (ap p (sym same) ∙ e)) (inl same)

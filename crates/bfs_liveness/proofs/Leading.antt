@@ -1,6 +1,7 @@
 -- Which views members lead.
-use Rattle.std.proofs.Common.{◌≡◌, ℕ, zero, suc, ◌+◌, ◌<◌, ◌≤◌, Bool, true, false, cond, ◌⊎◌, inl, inr, refl, sym, ap, subst, ◌∙◌, arith, mod-eq_of_lt}
+use Rattle.std.proofs.Common.{◌≡◌, ℕ, zero, suc, ◌+◌, ◌*◌, ◌/◌, ◌%◌, ◌<◌, ◌≤◌, Bool, true, false, cond, ◌⊎◌, inl, inr, refl, sym, ap, subst, ◌∙◌, arith, mod-eq_of_lt}
 use native.Mathlib.Nat.{add-mod_right}
+use Rattle.std.proofs.Math.Nat.{add-mul-mod_self_left, mod-add-div, mod-lt, mul-suc}
 use Rattle.std.proofs.lemmas.Bool.{cases_Bool, cases_lt}
 use Rattle.bfs_votes.specs.Votes.{count_below, primary, replicas}
 use Rattle.bfs_votes.proofs.Public.{none_below, same_below, same_count}
@@ -82,3 +83,24 @@ a_member_leads f faulty members view are =
     let got = one_more next (λ k. false) (f + 1) (omega (arith, all, each, beyond, enough, none)) in
     let low = got.1 in
     (got.0 + suc view, omega arith, omega (arith, low), got.2)
+
+-- of as many numbers in a row as there are remainders one has each
+in_a_row : (n q r from k : ℕ) → r + n * q ≡ from → r < n → k < n → (next : ℕ) × (from ≤ next) × (next < from + n) × (next % n ≡ k)
+in_a_row n q r from k parts under low =
+    let at : (m : ℕ) → (k + n * m) % n ≡ k = λ m. add-mul-mod_self_left k n m ∙ mod-eq_of_lt low in
+    elim (cases_lt k r) [
+      | inl before ↦
+          let more : n * suc q ≡ n * q + n = mul-suc n q in
+          (k + n * suc q, omega (arith, parts, under, more), omega (arith, parts, before, more), at (suc q))
+      | inr behind ↦ (k + n * q, omega (arith, parts, behind), omega (arith, parts, low), at q)
+    ]
+
+-- each replica leads one of 3f + 1 views in a row
+pub each_leads : (f view k : ℕ) → k < replicas f → (next : ℕ) × (view < next) × (next ≤ view + replicas f) × (primary f next ≡ k)
+each_leads f view k low =
+    let n = replicas f in
+    let from = view + 1 in
+    let got = in_a_row n (from / n) (from % n) from k (mod-add-div from n) (mod-lt from (omega (arith, low))) low in
+    let above = got.1 in
+    let near = got.2 in
+    (got.0, omega (arith, above), omega (arith, near), got.3)

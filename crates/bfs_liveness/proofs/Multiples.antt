@@ -1,5 +1,5 @@
 -- Each CHECKPOINT that a node has sent is of a multiple of the interval, and so is what is stable.
-use Rattle.std.proofs.Common.{◌≡◌, ℕ, ◌+◌, ◌*◌, ◌%◌, ◌<◌, ◌==◌, Bool, true, false, List, [], ◌∷◌, inl, inr, refl, sym, ap, subst, ◌∙◌, arith}
+use Rattle.std.proofs.Common.{◌≡◌, ℕ, ◌%◌, ◌<◌, Bool, List, [], ◌∷◌, inl, inr, refl, ap, subst, ◌∙◌}
 use Rattle.bfs_auth.specs.declared.authenticators.Authenticator.{Authenticator}
 use Rattle.bfs_log.specs.Headers.{header}
 use Rattle.bfs_messages.specs.Messages as model

@@ -110,7 +110,7 @@ after_votes (turn ∷ turns) votes w =
 
 -- What a node has said ------------------------------------------------------------------------------------------------
 
-find_more : {A : Type 0} (p : A → Bool) (xs ys : List A) (x : A) → find p xs ≡ Some x → find p (xs ++ ys) ≡ Some x
+pub find_more : {A : Type 0} (p : A → Bool) (xs ys : List A) (x : A) → find p xs ≡ Some x → find p (xs ++ ys) ≡ Some x
 find_more p [] ys x e = absurd cc
 find_more p (z ∷ xs) ys x e =
     (elim (p z) as (λ b. cond b (Some z) (find p xs) ≡ Some x → cond b (Some z) (find p (xs ++ ys)) ≡ Some x) [ true ↦ λ e. e | false ↦ λ e. find_more p xs ys x e ]) e

@@ -1,42 +1,31 @@
 -- No next number lies more than one above the high mark.
-use Rattle.std.proofs.Common.{◌≡◌, ℕ, ◌+◌, ◌<◌, ◌≤◌, max, Bool, true, false, cond, List, ◌⊎◌, Some, None, inl, inr, refl, sym, ap, subst, ◌∙◌, arith}
-use Rattle.std.specs.Prelude.{nat_lt}
-use Rattle.std.specs.List.{list_all}
-use Rattle.std.proofs.lemmas.Bool.{and_parts, cases_lt}
-use Rattle.bfs_auth.specs.Keys.{Keys}
-use Rattle.bfs_log.specs.Certificates.{StableCheckpoint, checkpoints_in, is_shown, vouches}
+use Rattle.std.proofs.Common.{◌≡◌, ℕ, ◌+◌, ◌<◌, ◌≤◌, Bool, ◌⊎◌, Some, None, inl, inr, refl, ap, subst, ◌∙◌, arith}
+use Rattle.std.proofs.lemmas.Bool.{cases_lt}
 use Rattle.bfs_log.specs.Headers.{header}
-use Rattle.bfs_log.specs.Logs.{greatest_proposed, headers, kept_after}
-use Rattle.bfs_messages.specs.declared.order_messages.OrderMessage.{OrderMessage}
-use Rattle.bfs_messages.specs.declared.signed.Signed.{Signed}
 use Rattle.bfs_model.specs.Server.Limits.{log_size}
 use Rattle.bfs_order.specs.Laws.Calls.{Call, Takes, Proposes, Executes, Checkpoints, Installs, Leaves, Enters, execution, outcome}
 use Rattle.bfs_order.specs.Laws.Logs.{IsInWindow, IsWindowed}
 use Rattle.bfs_order.specs.Replica.Accepting.{accepted}
 use Rattle.bfs_order.specs.Replica.Checkpoints.{checkpoint_refusal, checkpointed}
 use Rattle.bfs_order.specs.Replica.Executing.{next_order}
-use Rattle.bfs_order.specs.Replica.Installing.{certified, install_refusal, installed}
-use Rattle.bfs_order.specs.Replica.Proposing.{next_number, proposal_refusal, proposed}
+use Rattle.bfs_order.specs.Replica.Installing.{install_refusal, installed}
+use Rattle.bfs_order.specs.Replica.Proposing.{proposal_refusal, proposed}
 use Rattle.bfs_order.specs.Replica.Refusals.{refusal}
 use Rattle.bfs_order.specs.Replica.States.{State, known}
 use Rattle.bfs_order.specs.Replica.Views.{as_proposals, entered, entering_refusal, greatest_number, leaving_refusal, left}
-use Rattle.bfs_votes.specs.Votes.{Header, Told}
-use Rattle.bfs_agreement.specs.Histories.{FewAreFaulty, IsIn}
-use Rattle.bfs_agreement.specs.Moves.{kept_above}
-use Rattle.bfs_agreement.proofs.Public.{kept_told}
-use Rattle.bfs_nodes_agree.specs.Orders.Following.{HaveTheSameVotes}
+use Rattle.bfs_agreement.specs.Histories.{FewAreFaulty}
 use Rattle.bfs_nodes_agree.specs.Nodes.Laws.{ViewsAreEnteredWhole}
 use Rattle.bfs_nodes_agree.specs.Nodes.Premises.{AreShared}
-use Rattle.bfs_nodes_agree.specs.Nodes.Replicas.{Beginning, Keyring, NodeReplica, NodeReplicas, after_node_turn}
+use Rattle.bfs_nodes_agree.specs.Nodes.Replicas.{Beginning, Keyring, NodeReplica, after_node_turn}
 use Rattle.bfs_nodes_agree.specs.Nodes.Steps.{outcome as result}
-use Rattle.bfs_nodes_agree.proofs.Public.{at_in, dropped, each_five, either_way, here_after, in_map, low_rises, told_same}
+use Rattle.bfs_nodes_agree.proofs.Public.{at_in, either_way, here_after, in_map, low_rises}
 use Rattle.bfs_nodes_progress.specs.Inside.Below.{Below}
 use Rattle.bfs_nodes_progress.specs.Runs.{order_of, reached}
 use Rattle.bfs_nodes_progress.proofs.Public.{always, step_on}
-use Rattle.bfs_liveness.specs.LawsOfWindows.{CatchingUpProposesNothing, WindowsAreBounded}
-use Rattle.bfs_liveness.proofs.Behind.{HasBegun, StepsKeep, all_orders, views_begin_behind}
+use Rattle.bfs_liveness.specs.LawsOfWindows.{WindowsAreBounded}
+use Rattle.bfs_liveness.proofs.Behind.{StepsKeep, all_orders, views_begin_behind}
 use Rattle.bfs_liveness.proofs.Entering.{entered_above, greatest_in}
-use Rattle.bfs_liveness.proofs.Filled.{greatest_under, told_le}
+use Rattle.bfs_liveness.proofs.Filled.{greatest_under}
 use Rattle.bfs_liveness.proofs.Settled.{among}
 use Rattle.bfs_liveness.proofs.Stable.{order_keeps}
 

@@ -62,7 +62,7 @@ begun_waits node =
       | false ↦ waits_itself node
     ]
 
-change_waits : (node : Node) (s : Signed model.ViewChange) → Waits node (with_view_change node s).now
+pub change_waits : (node : Node) (s : Signed model.ViewChange) → Waits node (with_view_change node s).now
 change_waits node s =
     let there = record node { changes = with_change node.changes s } in
     let noted = record node { changes = with_asked node.changes s.message } in
@@ -85,7 +85,7 @@ pub record HasLeft (view : ℕ) (node now : Node) : Type 0 where
   pub asked : now.order.asked ≡ view
   pub before : leads node view ≡ false → now.order.view ≡ node.order.view
 
-left_is : (node : Node) (view : ℕ) → HasLeft view node (left_for node view).now
+pub left_is : (node : Node) (view : ℕ) → HasLeft view node (left_for node view).now
 left_is node view =
     let own = own_change node view in
     let gone = record node { order = (left node.order view).now } in

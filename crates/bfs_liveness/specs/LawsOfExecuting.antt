@@ -1,16 +1,17 @@
 -- The statements on what members execute: contracts of functions of src/executing.rt, which do nothing.
 use Rattle.std.specs.Prelude.{◌≡◌, ℕ, ◌+◌, ◌%◌, ◌<◌, ◌≤◌, max, Bool, true, false, is_some, List, ◌++◌}
+use Rattle.bfs_messages.specs.Messages.{Batch}
 use Rattle.bfs_model.specs.Server.Limits.{checkpoint_interval, log_size, most_number}
 use Rattle.bfs_model.specs.Server.Stored.{IsTime}
 use Rattle.bfs_model.specs.Server.Tree.{Time}
 use Rattle.bfs_order.specs.Laws.Calls.{IsKept}
-use Rattle.bfs_order.specs.Replica.Proposing.{batch_digest, next_number}
+use Rattle.bfs_order.specs.Replica.Proposing.{next_number}
 use Rattle.bfs_order.specs.Replica.States.{State, known}
 use Rattle.bfs_votes.specs.Votes.{is_stable, primary}
 use Rattle.bfs_node.specs.Proposing.{pending_batch}
-use Rattle.bfs_nodes_agree.specs.Nodes.Replicas.{Beginning, Keyring, NodeReplicas, NodeTurn}
+use Rattle.bfs_nodes_agree.specs.Nodes.Laws.{Executed}
+use Rattle.bfs_nodes_agree.specs.Nodes.Replicas.{Beginning, Keyring, NodeReplica, NodeReplicas, NodeTurn}
 use Rattle.bfs_nodes_progress.specs.Members.{AreTogether, IsProposed, is_committed}
-use Rattle.bfs_nodes_progress.specs.Requests.{HasExecuted}
 use Rattle.bfs_nodes_progress.specs.Runs.{IsARun, order_of, reached}
 use Rattle.bfs_liveness.specs.Even.{AreEven}
 use Rattle.bfs_liveness.specs.Exchanges.{emptying, ordering, three_exchanges}
@@ -73,7 +74,13 @@ ExchangesCommit = (f : ℕ) (keys : Keyring) (start : Beginning) (faulty members
 abbrev pub HasPlace : (low next : ℕ) → Type 0
 HasPlace low next = (next ≤ low + log_size) × (next ≤ most_number)
 
--- where members are even, and the primary's next number has room, ordering is a way behind which each has executed a batch of what waited there
+-- it has executed that batch as the number, and nothing behind it, and its file system has not failed
+pub record HasJustExecuted (r : NodeReplica) (number : ℕ) (batch : Batch) : Type 0 where
+  pub executed : Executed r number batch
+  pub last : r.node.order.last ≡ number
+  pub live : is_some r.node.files ≡ true
+
+-- where members are even, and the primary's next number has room, ordering is a way behind which each has executed the batch of what waited there
 abbrev pub WhatWaitsIsExecuted : Type 0
 WhatWaitsIsExecuted = (f : ℕ) (keys : Keyring) (start : Beginning) (faulty members : ℕ → Bool) (turns : List NodeTurn) (view low : ℕ) (time : Time)
     → let w = reached f keys start turns in
@@ -87,7 +94,7 @@ WhatWaitsIsExecuted = (f : ℕ) (keys : Keyring) (start : Beginning) (faulty mem
     → IsTime time
     → IsWay members w way
     × IsARun f keys start faulty (turns ++ way)
-    × ((k : ℕ) → members k ≡ true → HasExecuted (reached f keys start (turns ++ way) k) number (batch_digest (pending_batch node time)))
+    × ((k : ℕ) → members k ≡ true → HasJustExecuted (reached f keys start (turns ++ way) k) number (pending_batch node time))
 
 -- A full window -------------------------------------------------------------------------------------------------------
 

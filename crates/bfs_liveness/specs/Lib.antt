@@ -5,6 +5,7 @@ pub mod LawsOfMeeting
 pub mod LawsOfMarks
 pub mod Even
 pub mod Exchanges
+pub mod Waiting
 pub mod LawsOfExecuting
 pub mod Catching
 pub mod LawsOfCatching

@@ -50,7 +50,7 @@ pub fn exchanges_commit()
 }
 
 /// For members that are even: the primary of their view proposes what waits there, in three exchanges it is committed at each, with all that was
-/// proposed before, and each member executes it.
+/// proposed before, and each member executes it. It is that very batch, and the last one that each has executed then.
 pub fn what_waits_is_executed()
     ensures { WhatWaitsIsExecuted }
 {
@@ -58,6 +58,7 @@ pub fn what_waits_is_executed()
     what_is_resent_was_sent();
     none_is_left_out();
     none_is_beyond();
+    steps_are_turns();
 }
 
 /// For members that are even, where the primary of their view has proposed the last number of its window: in three exchanges all of it is committed,

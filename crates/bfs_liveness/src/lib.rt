@@ -7,4 +7,5 @@ pub mod executing;
 pub mod marks;
 pub mod meeting;
 pub mod progress;
+pub mod waiting;
 pub mod window;

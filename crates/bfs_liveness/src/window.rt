@@ -5,6 +5,7 @@ use crate::below::what_is_below;
 use crate::catching::members_come_up;
 use crate::executing::full_windows_are_emptied;
 use crate::meeting::ways_are_runs;
+use crate::waiting::what_waits_stays;
 use bfs_nodes_agree::node_calls::laws::new_views_are_taken_whole;
 use bfs_order::the_stable_checkpoint_has_its_certificate;
 
@@ -39,7 +40,7 @@ pub fn catching_up_proposes_nothing()
 {}
 
 /// Where the primary of the view of even members has proposed all that its window takes: there is a way by which they execute all of it, and are even
-/// again with the number at its end. The primary can propose again there.
+/// again with the number at its end. The primary can propose again there. What waited at each waits there still, but what it has executed.
 pub fn full_windows_go_on()
     ensures { FullWindowsGoOn }
 {
@@ -48,4 +49,5 @@ pub fn full_windows_go_on()
     ways_are_runs();
     windows_are_bounded();
     what_is_stable_is_a_multiple();
+    what_waits_stays();
 }

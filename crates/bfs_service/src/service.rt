@@ -15,7 +15,6 @@ use crate::resending::give_again;
 use crate::standings::{Status, standing_of};
 use crate::telling::parcels_of;
 use crate::terms::Terms;
-use bfs_filter::{Machine, TurnError};
 use bfs_frames::{Frame, Kind, Parcel, To, Turn};
 use bfs_messages::{Message, Request, Signed};
 use bfs_node::{Executor, Node};
@@ -290,17 +289,5 @@ impl Service {
         give_again(self.alloc, self.actor.node(), &self.policy, &mut parcels)?;
         self.notes.move_behind(&mut parcels)?;
         Ok(parcels)
-    }
-}
-
-impl Machine for Service {
-    ghost takes = { λ old turn parcels new. Takes old.acting turn parcels new.acting };
-
-    fn turn<H: Threads + Wait + Sync>(
-        &mut self,
-        rt: &H,
-        turn: Turn,
-    ) -> Result<Vec<Parcel>, TurnError> {
-        Ok(self.take_turn(rt, &turn)?)
     }
 }

@@ -1,6 +1,5 @@
 -- One level up.
 use Rattle.std.proofs.Common.{◌≡◌, ◌+◌, ◌/◌, ◌^◌, ℕ, suc, List, refl, ap, ◌∙◌, arith}
-use Rattle.std.proofs.lemmas.Nat.{shr-shr}
 use Rattle.lms.specs.Bytes.{hash_at}
 use Rattle.bfs_signatures.specs.Hashes.{climbed, node_above}
 
@@ -18,6 +17,3 @@ pub climbed_more : (number : ℕ) (node path : List ℕ) (n : ℕ)
 climbed_more number node path n =
     let more : n + 1 ≡ suc n = omega arith in
     ap (climbed number node path) more ∙ climbed_suc number node path n
-
-pub halved : (number n : ℕ) → number / 2 ^ n / 2 ≡ number / 2 ^ (n + 1)
-halved number n = shr-shr number n 1

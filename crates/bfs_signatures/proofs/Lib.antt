@@ -2,6 +2,6 @@ mod Climbing
 pub mod Alike
 mod Places
 mod Heights
-mod Joined
 mod Kept
 pub mod Signed
+pub mod Telling

@@ -1,11 +1,12 @@
 -- Where the nodes of a tree stand.
-use Rattle.std.proofs.Common.{◌≡◌, ◌≤◌, ◌<◌, ◌+◌, ◌-◌, ◌*◌, ◌/◌, ◌%◌, ◌^◌, inl, inr, ℕ, suc, true, false, ap, ◌∙◌, arith}
+use Rattle.std.proofs.Common.{◌≡◌, ◌≤◌, ◌<◌, ◌+◌, ◌-◌, ◌*◌, ◌/◌, ◌%◌, ◌^◌, inl, inr, ℕ, suc, ap, ◌∙◌, arith}
 use Rattle.std.specs.Prelude.{◌==◌}
-use Rattle.std.proofs.lemmas.Bool.{cases_Bool, cond-false, cond-true, eqb-false, eqb-true}
+use Rattle.std.proofs.lemmas.Bool.{cases_Bool, eqb-false, eqb-true}
 use Rattle.std.proofs.lemmas.Nat.{div_below, pow-add, pow_pos}
 use Rattle.std.proofs.Math.Nat.{mul_comm, pow-succ'}
 use Rattle.std.proofs.Math.Pow.{pow_mono}
 use Rattle.lms.specs.Secrets.{sibling}
+use Rattle.lms.proofs.Paths.{even_sibling, odd_sibling}
 use Rattle.bfs_signatures.specs.Signature.{most_height}
 use Rattle.bfs_signatures.specs.Nodes.{place_of}
 
@@ -42,12 +43,6 @@ place_above height level number below =
     omega (arith, half_above height level below, level_fits height level, next)
 
 -- Siblings -----------------------------------------------------------------------------------------------------------------
-
-pub odd_sibling : (number : ℕ) → (number % 2 == 1) ≡ true → sibling number ≡ number - 1
-odd_sibling number odd = cond-true (number % 2 == 1) (number - 1) (number + 1) odd
-
-pub even_sibling : (number : ℕ) → (number % 2 == 1) ≡ false → sibling number ≡ number + 1
-even_sibling number even = cond-false (number % 2 == 1) (number - 1) (number + 1) even
 
 -- the sibling behind an even number of others, of which there are twice as many
 sibling_behind : (place even number half : ℕ) → place ≡ 2 * even + number → number < 2 * half

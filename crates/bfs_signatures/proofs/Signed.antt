@@ -1,30 +1,31 @@
 -- What is signed passes.
 use Rattle.std.proofs.Common.{◌≡◌, ◌≤◌, ◌<◌, ◌+◌, ◌*◌, ◌/◌, ◌%◌, ◌^◌, inl, inr, ℕ, zero, suc, List, [], ◌∷◌, ◌++◌, length, take, drop, true, refl, sym, ap, ◌∙◌, arith, length-append}
 use Rattle.std.specs.Prelude.{◌==◌, map, nat_le, nat_lt, replicate, slice_index_or}
-use Rattle.std.specs.Int.{from_be_bytes, to_be_bytes, w32}
+use Rattle.std.specs.Int.{to_be_bytes, w32}
 use Rattle.std.specs.List.{range_with_len}
 use Rattle.std.proofs.lemmas.Bool.{and_from, cases_Bool, cond-false, cond-true, eqb-false, eqb-true, le-leb, lt-ltb}
-use Rattle.std.proofs.lemmas.List.{drop-drop, drop_at, get_or-map, length-map, take_at}
+use Rattle.std.proofs.lemmas.List.{get_or-map, length-map, take_at}
 use Rattle.std.proofs.lemmas.List.FromFn.{get_or-map-range_with_len}
-use Rattle.std.proofs.lemmas.Nat.{from_be_bytes-to_be_bytes_4, shr-shr}
+use Rattle.std.proofs.lemmas.Nat.{shr-shr}
 use Rattle.std.proofs.lemmas.Option.{get_or_from_slice_get, slice_get_within}
 use Rattle.std.proofs.Math.Nat.{div-eq_of_lt}
 use Rattle.sha2.proofs.Facts256.{length-sha256}
-use Rattle.lms.specs.Bytes.{hash_at, word_at}
+use Rattle.lms.specs.Bytes.{hash_at}
 use Rattle.lms.specs.Chains.{joined}
 use Rattle.lms.specs.Levels.{hss_public_key_bytes, hss_verifies}
 use Rattle.lms.specs.Secrets.{sibling}
 use Rattle.lms.specs.Signers.{hss_public_key, hss_signature_of}
+use Rattle.lms.proofs.Paths.{even_sibling, odd_sibling}
 use Rattle.lms.proofs.SignedLevels.{hss_signed_verifies}
+use Rattle.lms.proofs.Standing.{behind, hash_at-joined, joined_long, word_here}
 use Rattle.bfs_signatures.specs.Hashes.{climbed, leaf_hash, node_above, node_hash}
 use Rattle.bfs_signatures.specs.Signature.{height_in, is_formed, is_signature_of_leaf, most_height, number_in, path_in, root_in, root_signature_in}
 use Rattle.bfs_signatures.specs.Signing.{beside, height_of, node, root, signature_under}
 use Rattle.bfs_signatures.specs.Laws.{HeightIsLeast, SignedTextsVerify}
 use Rattle.bfs_signatures.proofs.Climbing.{climbed_more, climbed_none}
 use Rattle.bfs_signatures.proofs.Heights.{is_least}
-use Rattle.bfs_signatures.proofs.Joined.{hash_at-joined, joined_long}
 use Rattle.bfs_signatures.proofs.Kept.{node_inner, node_zero}
-use Rattle.bfs_signatures.proofs.Places.{even_sibling, odd_sibling, width_fits}
+use Rattle.bfs_signatures.proofs.Places.{width_fits}
 
 pub height_is_least : HeightIsLeast
 height_is_least count fits = let is = is_least most_height count fits in (is.room, is.least)
@@ -36,7 +37,7 @@ leaf_long [] number = refl
 leaf_long (text ∷ texts) zero = length-sha256 _
 leaf_long (text ∷ texts) (suc n) = leaf_long texts n
 
-node_long : (texts : List (List ℕ)) (level number : ℕ) → length (node (map leaf_hash texts) level number) ≡ 32
+pub node_long : (texts : List (List ℕ)) (level number : ℕ) → length (node (map leaf_hash texts) level number) ≡ 32
 node_long texts zero number = ap length (node_zero (map leaf_hash texts) number) ∙ leaf_long texts number
 node_long texts (suc n) number = ap length (node_inner (map leaf_hash texts) n number) ∙ length-sha256 _
 
@@ -84,14 +85,6 @@ root_again texts leaf height fits =
     climbed_again texts leaf (node (map leaf_hash texts) 0 leaf) height height (omega arith) refl ∙ ap (node (map leaf_hash texts) height) (div-eq_of_lt fits)
 
 -- Signatures ---------------------------------------------------------------------------------------------------------------
-
--- what stands behind a part, and the part
-behind : (place long : ℕ) (bytes part rest : List ℕ) → length part ≡ long → drop place bytes ≡ part ++ rest → drop (place + long) bytes ≡ rest
-behind place long bytes part rest told e = sym (drop-drop long place bytes) ∙ ap (drop long) e ∙ drop_at part rest long told
-
-word_here : (place n : ℕ) (bytes rest : List ℕ) → n < 2 ^ 32 → drop place bytes ≡ to_be_bytes w32 n ++ rest → word_at place bytes ≡ n
-word_here place n bytes rest small e =
-    ap (from_be_bytes w32) (ap (take 4) e ∙ take_at (to_be_bytes w32 n) rest 4 refl) ∙ from_be_bytes-to_be_bytes_4 n small
 
 -- what stands in a signature
 record Stands (leaf height : ℕ) (path rest bytes : List ℕ) : Type 0 where

@@ -1,6 +1,7 @@
 -- Nodes of a tree as a signer keeps them: level after level, from the leaves up to the root.
 use Rattle.std.specs.Prelude.{◌≡◌, ℕ, ◌+◌, ◌-◌, ◌*◌, ◌^◌, ◌<◌, ◌≤◌, List, [], length, slice_index_or}
-use Rattle.bfs_signatures.specs.Signing.{node}
+use Rattle.bfs_signatures.specs.Signature.{most_height}
+use Rattle.bfs_signatures.specs.Signing.{height_of, node}
 
 -- how many nodes a tree has
 abbrev pub node_count : (height : ℕ) → ℕ
@@ -15,3 +16,7 @@ abbrev pub HasNodes : (leaves : List (List ℕ)) (height : ℕ) (nodes : List (L
 HasNodes leaves height nodes =
     (level number : ℕ) → level ≤ height → number < 2 ^ (height - level) → place_of height level number < length nodes
     → slice_index_or nodes (place_of height level number) [] ≡ node leaves level number
+
+-- they are all of them, and no more levels than need be
+abbrev pub IsTreeOver : (leaves : List (List ℕ)) (height : ℕ) (nodes : List (List ℕ)) → Type 0
+IsTreeOver leaves height nodes = (height ≤ most_height) × (height ≡ height_of leaves) × (length nodes ≡ node_count height) × HasNodes leaves height nodes

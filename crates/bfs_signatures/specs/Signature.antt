@@ -1,5 +1,5 @@
--- The signature of one text, as bytes: the number of its leaf, the height of the tree, the hashes from the leaf up, and the signature of the root by a key of several
--- levels (RFC 8554).
+-- The signature of one text, as bytes: the number of its leaf, the height of the tree, the hashes from the leaf up, and the signature of the root by a key of
+-- several levels (RFC 8554).
 use Rattle.std.specs.Prelude.{ℕ, ◌+◌, ◌*◌, ◌^◌, ◌&&◌, Bool, List, length, take, drop, nat_le, nat_lt, Option, Some, None, if◌then◌else◌}
 use Rattle.lms.specs.Bytes.{word_at}
 use Rattle.lms.specs.Levels.{hss_verifies}

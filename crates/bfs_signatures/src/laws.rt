@@ -1,5 +1,5 @@
 //! What is said of all keys and texts. The bodies are empty: what is said is each contract.
-ghost use Rattle.bfs_signatures.specs.Laws.{HeightIsLeast, PassesLike, SignedTextsVerify};
+ghost use Rattle.bfs_signatures.specs.Laws.{HeightIsLeast, PassesLike, RootTellsTexts, SignedTextsVerify};
 
 /// Of two signatures with one root and one signature of it, one passes where the other does: who has checked one need not check the other's again.
 #[tactic(auto, using(crate::proofs::Alike::passes_like))]
@@ -16,4 +16,11 @@ pub fn what_is_signed_verifies()
 /// A tree is no higher than its leaves need.
 pub fn height_is_least()
     ensures { HeightIsLeast }
+{}
+
+/// Where no two of what is hashed have one hash, a signature that tells the root of a tree is of the text among the tree's that its number says: who signs a root
+/// signs no other text.
+#[tactic(auto, using(crate::proofs::Telling::root_tells_texts))]
+pub fn a_root_tells_its_texts()
+    ensures { RootTellsTexts }
 {}

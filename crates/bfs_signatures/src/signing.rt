@@ -8,8 +8,8 @@ use crate::tree::Tree;
 use lms::{SignError, Signer};
 use std::alloc::{AllocError, Global};
 
-/// The signatures of the texts with these leaves, in their order, all by one index. An index may sign once only: of other leaves another one. `NoIndex` where the key has no such index,
-/// `Memory` where memory runs out.
+/// The signatures of the texts with these leaves, in their order, all by one index. An index may sign one such list only: who has signatures of two by one index can
+/// make more. `NoIndex` where the key has no such index, `Memory` where memory runs out. There may be `MOST_TEXTS` at most.
 pub fn sign_all(
     alloc: Global,
     signer: &mut Signer,

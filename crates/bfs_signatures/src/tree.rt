@@ -19,16 +19,14 @@ pub(crate) struct Tree {
 }
 
 impl Model for Tree {
-    ghost use Rattle.std.specs.Prelude.{◌≡◌, ◌^◌, ◌≤◌, ℕ, List, length, take};
-    ghost use Rattle.bfs_signatures.specs.Signature.{most_height};
-    ghost use Rattle.bfs_signatures.specs.Signing.{height_of};
-    ghost use Rattle.bfs_signatures.specs.Nodes.{HasNodes, node_count};
+    ghost use Rattle.std.specs.Prelude.{◌^◌, ◌≤◌, ℕ, List, take};
+    ghost use Rattle.bfs_signatures.specs.Nodes.{IsTreeOver};
 
     ghost Value = { List (List ℕ) };
 
     ghost view = { λ tree. take tree.leaf_count tree.nodes.items };
 
-    ghost invariant = { λ tree. (tree.leaf_count ≤ 2 ^ tree.height) × (tree.height ≤ most_height) × (tree.height ≡ height_of (take tree.leaf_count tree.nodes.items)) × (length tree.nodes.items ≡ node_count tree.height) × HasNodes (take tree.leaf_count tree.nodes.items) tree.height tree.nodes.items };
+    ghost invariant = { λ tree. (tree.leaf_count ≤ 2 ^ tree.height) × IsTreeOver (take tree.leaf_count tree.nodes.items) tree.height tree.nodes.items };
 }
 
 impl Tree {

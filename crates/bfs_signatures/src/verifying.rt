@@ -5,11 +5,14 @@ ghost use Rattle.bfs_signatures.specs.Signature.{height_in, is_formed, is_signat
 use crate::hashes::climb;
 use lms::hss_verify;
 
-/// How many levels a tree has at most above its leaves: it is over 4096 texts at most.
-pub const MOST_HEIGHT: u32 = 12;
+/// How many texts are signed at once at most.
+pub const MOST_TEXTS: usize = 4096;
+
+// how many levels a tree has at most above its leaves
+const MOST_HEIGHT: u32 = 12;
 
 /// Whether these are bytes of a public key of one to three levels, and of a signature of the text with that leaf by it. `false` where they are malformed in any
-/// way: too short, of a higher tree than `MOST_HEIGHT`, of a leaf that the tree has not, or as `lms::hss_verify` says. It takes no memory.
+/// way: too short, of a tree with room for more than `MOST_TEXTS`, of a leaf that the tree has not, or as `lms::hss_verify` says. It takes no memory.
 pub fn verify_leaf(public_key: &[u8], leaf: &[u8; 32], signature: &[u8]) -> bool
     ensures { result ≡ is_signature_of_leaf public_key.now leaf.now signature.now }
 {
@@ -21,8 +24,8 @@ pub fn verify_leaf(public_key: &[u8], leaf: &[u8; 32], signature: &[u8]) -> bool
         )
 }
 
-/// The root that a signature of the text with that leaf tells, whether or not it is signed. `None` where no key has such a signature: it is too short, of a higher tree than
-/// `MOST_HEIGHT`, or of a leaf that the tree has not.
+/// The root that a signature of the text with that leaf tells, whether or not the root is signed. `None` where it is malformed: too short, of a tree with room for more
+/// than `MOST_TEXTS`, or of a leaf that the tree has not.
 pub fn root_of(leaf: &[u8; 32], signature: &[u8]) -> Option<[u8; 32]>
     ensures { result ≡ root_of leaf.now signature.now }
 {

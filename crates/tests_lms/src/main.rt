@@ -6,6 +6,8 @@ mod changes;
 #[cfg(test)]
 mod parts;
 mod rising;
+#[cfg(test)]
+mod texts;
 mod vectors;
 
 use crate::changes::{Count, count_refused};

@@ -2,7 +2,8 @@
 ghost use Rattle.std.specs.Prelude.{◌<◌};
 
 use bfs_auth::{
-    Authenticator, Claimed, KeyedHashes, Keys, MOST_REPLICAS, Principal, check, check_all, sign, sign_for_client,
+    Authenticator, Claimed, KeyedHashes, Keys, MOST_REPLICAS, Principal, check, check_all, sign,
+    sign_for_client,
 };
 use bfs_testing::words::spells;
 use bfs_testing::{holds, same};

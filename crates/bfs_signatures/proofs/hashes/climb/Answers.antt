@@ -1,5 +1,6 @@
 use Rattle.std.proofs.Common.{◌/◌, sym, ap, ◌∙◌, arith}
-use Rattle.bfs_signatures.proofs.Climbing.{climbed_more, climbed_none, halved}
+use Rattle.lms.proofs.Steps.{halved}
+use Rattle.bfs_signatures.proofs.Climbing.{climbed_more, climbed_none}
 use Rattle.bfs_signatures.proofs.hashes.climb.Goals as goal
 
 pub loop-level-init : goal.loop-level-init

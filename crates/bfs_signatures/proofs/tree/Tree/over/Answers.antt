@@ -23,8 +23,10 @@ invariant_of-result c =
     let least = is_least most_height (length leaves) c.requires in
     let is : take (length leaves) nodes ≡ leaves = c.in_ok-nodes_over.ensures.leaves in (
       omega (arith, ap (λ n. 2 ^ n) c.height_for-height.ensures, least.room),
-      omega (arith, c.height_for-height.ensures, least.few),
-      c.height_for-height.ensures ∙ ap height_of (sym is),
-      c.in_ok-nodes_over.ensures.whole,
-      subst (λ (l : List (List ℕ)). HasNodes l height nodes) (sym is) c.in_ok-nodes_over.ensures.made,
+      (
+        omega (arith, c.height_for-height.ensures, least.few),
+        c.height_for-height.ensures ∙ ap height_of (sym is),
+        c.in_ok-nodes_over.ensures.whole,
+        subst (λ (l : List (List ℕ)). HasNodes l height nodes) (sym is) c.in_ok-nodes_over.ensures.made,
+      ),
     )

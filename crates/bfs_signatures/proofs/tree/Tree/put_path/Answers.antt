@@ -5,8 +5,7 @@ use Rattle.lms.specs.Secrets.{sibling}
 use Rattle.lms.specs.Chains.{joined}
 use Rattle.bfs_signatures.specs.Signing.{beside, node}
 use Rattle.bfs_signatures.specs.Nodes.{place_of}
-use Rattle.bfs_signatures.proofs.Climbing.{halved}
-use Rattle.bfs_signatures.proofs.Joined.{joined_more, joined_none}
+use Rattle.lms.proofs.Steps.{halved, joined_more, joined_none}
 use Rattle.bfs_signatures.proofs.Places.{level_fits, on_the_way, place_above, place_beside, place_zero, width_fits}
 use Rattle.bfs_signatures.proofs.tree.Tree.put_path.Goals as goal
 
@@ -30,8 +29,8 @@ index-requires c =
     let number = c.args.leaf / 2 ^ level in
     let there = c.sibling.ensures ∙ ap sibling c.loop-level.invariant.place in
     let beside = place_beside height level number c.loop-level-test.true (on_the_way height level c.args.leaf (omega arith) fits) in
-    let long : length nodes ≡ 2 * 2 ^ height - 1 = c.self.invariant.3 in
-    omega (arith, there, beside, level_fits height level, width_fits height c.self.invariant.1, long)
+    let long : length nodes ≡ 2 * 2 ^ height - 1 = c.self.invariant.1.2 in
+    omega (arith, there, beside, level_fits height level, width_fits height c.self.invariant.1.0, long)
 
 pub loop-level-preserved : goal.loop-level-preserved
 loop-level-preserved c =
@@ -45,14 +44,14 @@ loop-level-preserved c =
     let f : ℕ → List ℕ = beside c.args.self.now leaf in
     let there = c.sibling.ensures ∙ ap sibling c.loop-level.invariant.place in
     let next = place_beside height level number c.loop-level-test.true (on_the_way height level leaf (omega arith) fits) in
-    let long : length nodes ≡ 2 * 2 ^ height - 1 = c.self.invariant.3 in
-    let few = width_fits height c.self.invariant.1 in
+    let long : length nodes ≡ 2 * 2 ^ height - 1 = c.self.invariant.1.2 in
+    let few = width_fits height c.self.invariant.1.0 in
     let within : place_of height level (sibling number) < length nodes = omega (arith, next, level_fits height level, few, long) in
     let at = there ∙ next.0 in
     let held : c.index.result.now ≡ f level =
     get_or_read nodes c.sibling.result c.index.result.now (omega (arith, at, within)) c.index.ensures []
     ∙ ap (λ k. slice_index_or nodes k []) at
-    ∙ c.self.invariant.4 level (sibling number) (omega arith) next.1 within
+    ∙ c.self.invariant.1.3 level (sibling number) (omega arith) next.1 within
     ∙ ap (λ (l : List (List ℕ)). node l level (sibling number)) is in
     record {
       place = omega (arith, few) ∙ ap (λ k. 2 ^ height + k / 2) c.loop-level.invariant.place ∙ place_above height level number c.loop-level-test.true ∙ ap (place_of height (level + 1)) (halved leaf level);
