@@ -11,13 +11,10 @@ use bfs_auth::Text;
 use bfs_codec::{DecodeError, decode};
 use bfs_frames::{Parcel, To};
 use bfs_messages::{Message, Signed};
-use bfs_signatures::{MOST_HEIGHT, leaf_hasher};
+use bfs_signatures::{MOST_TEXTS, leaf_hasher};
 use bfs_types::Memory;
 use sha2::Digest;
 use std::alloc::Global;
-
-/// For how many texts one signature is made at most.
-pub(crate) const MOST_TEXTS: usize = 1 << MOST_HEIGHT;
 
 pub(crate) fn goes_to_replicas(to: To) -> bool
     ensures { result ≡ model.goes_to_replicas to }
