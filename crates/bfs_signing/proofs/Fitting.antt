@@ -1,5 +1,5 @@
 -- What a relay signs for a call spells the request that it signed.
-use Rattle.std.proofs.Common.{◌≡◌, ◌∙◌, ℕ, ◌+◌, ◌<◌, ◌≤◌, ◌^◌, List, [], ◌∷◌, length, map, Option, Some, None, refl, sym, ap, subst, arith}
+use Rattle.std.proofs.Common.{◌≡◌, ◌∙◌, ℕ, ◌+◌, ◌<◌, ◌≤◌, ◌^◌, List, [], ◌∷◌, length, map, true, Option, Some, None, refl, sym, ap, subst, arith}
 use Rattle.std.specs.Prelude.{All}
 use Rattle.std.specs.List.{fold, range_with_len, slice_get}
 use Rattle.std.specs.Option.{option_map}
@@ -9,9 +9,14 @@ use Rattle.std.proofs.lemmas.List.FromFn.{length-map-range_with_len}
 use Rattle.std.proofs.lemmas.Option.{get_or_from_slice_get, slice_get_within}
 use Rattle.sha2.proofs.Facts256.{length-sha256}
 use Rattle.bfs_model.specs.Server.Limits.{most_clients, most_replicas, most_request_bytes}
-use Rattle.bfs_auth.specs.Authenticators.{IsAuthenticator, signature}
+use Rattle.lms.specs.Levels.{hss_public_key_bytes}
+use Rattle.lms.specs.Signers.{HssKey, hss_public_key}
+use Rattle.bfs_signatures.specs.Signature.{is_signature}
+use Rattle.bfs_auth.specs.Authenticators.{IsAuthenticator, entry_for, is_right, passes, signature}
 use Rattle.bfs_auth.specs.Hmac.{hmac_sha256}
-use Rattle.bfs_auth.specs.Keys.{Keys}
+use Rattle.bfs_auth.specs.Keys.{Keys, shared_with}
+use Rattle.bfs_auth.specs.Signatures.{most_signature_bytes}
+use Rattle.bfs_auth.specs.declared.authenticators.Authenticator.TheVariants.{Signature}
 use Rattle.bfs_auth.specs.declared.pairwise.SharedKeys.{SharedKeys}
 use Rattle.bfs_clients.specs.Clients.{Clients, signed_request}
 use Rattle.bfs_codec.proofs.Public.{text_spells}
@@ -19,14 +24,15 @@ use Rattle.bfs_codec.specs.Reading.{message_of}
 use Rattle.bfs_messages.specs.Fits.{FitsMessage}
 use Rattle.bfs_messages.specs.Limits.{FitsRequest, FitsSigned}
 use Rattle.bfs_messages.specs.Messages as model
-use Rattle.bfs_messages.specs.Signing.{signed_by}
+use Rattle.bfs_messages.specs.Signing.{sender_of, signed_by}
 use Rattle.bfs_messages.specs.Spelling.{body_text, signed_text}
 use Rattle.bfs_messages.specs.declared.message.Message.{Message}
 use Rattle.bfs_messages.specs.declared.message.Message.TheVariants.{Request}
 use Rattle.bfs_messages.specs.declared.signed.Signed.{Signed}
 use Rattle.bfs_relay.specs.GivenKeys.{all_keyless, client_of, clients_with, no_keys, put_at, with_keys}
 use Rattle.bfs_relay.specs.Origins.{Came, IsRequest}
-use Rattle.bfs_signing.specs.Origins.{HasFewKeys}
+use Rattle.bfs_signing.specs.Origins.{HasFewKeys, PassesBy}
+use Rattle.bfs_signing.specs.Requests.{with_signature}
 
 -- Keys -------------------------------------------------------------------------------------------------------------------
 
@@ -100,11 +106,33 @@ request_fits clients request signed few counted short (Some keys) there is =
     let fits : FitsRequest request = record { client = parts.0; timestamp = counted; call = short } in
     subst (FitsSigned FitsMessage) same (fits, signature_fits keys (body_text (Request request)) parts.1)
 
+origin_fits : (clients : Clients) (came : Came) (text : List ℕ) → AreFew clients → (origin : IsRequest clients came text)
+    → FitsSigned FitsMessage origin.asked.signed
+origin_fits clients came text few origin =
+    let asked = origin.asked in
+    let request : model.Request = record { client = origin.client; timestamp = origin.timestamp; call = asked.call.bytes } in
+    request_fits clients request asked.signed few asked.counted asked.short (slice_get clients.keys origin.client) refl asked.is_signed
+
 -- the text of a request that was signed for a call spells it
 pub request_spelled : (clients : Clients) (came : Came) (text : List ℕ) → AreFew clients → (origin : IsRequest clients came text)
     → message_of text ≡ Some origin.asked.signed
 request_spelled clients came text few origin =
-    let asked = origin.asked in
-    let request : model.Request = record { client = origin.client; timestamp = origin.timestamp; call = asked.call.bytes } in
-    let fits = request_fits clients request asked.signed few asked.counted asked.short (slice_get clients.keys origin.client) refl asked.is_signed in
-    ap message_of asked.is_text ∙ text_spells asked.signed fits
+    ap message_of origin.asked.is_text ∙ text_spells origin.asked.signed (origin_fits clients came text few origin)
+
+-- and so does its text with a signature
+pub signed_spelled : (clients : Clients) (came : Came) (text signature : List ℕ) → AreFew clients → (origin : IsRequest clients came text)
+    → length signature ≤ most_signature_bytes
+    → message_of (signed_text (with_signature origin.asked.signed signature)) ≡ Some (with_signature origin.asked.signed signature)
+signed_spelled clients came text signature few origin short =
+    text_spells (with_signature origin.asked.signed signature) ((origin_fits clients came text few origin).0, short)
+
+-- Signatures -------------------------------------------------------------------------------------------------------------
+
+-- a signature that passes by a key passes at all who know its public key
+pub passes_by_key : (key : HssKey) (signed : Signed Message) (bytes : List ℕ)
+    → is_signature (hss_public_key_bytes (hss_public_key key)) (body_text signed.message) bytes ≡ true → PassesBy key (with_signature signed bytes)
+unfolding passes
+passes_by_key key signed bytes is keys known =
+    let sender = sender_of signed.message in
+    let text = body_text signed.message in
+    subst (λ (public_key : Option (List ℕ)). is_right public_key (shared_with keys sender) text (entry_for keys.me (Signature bytes)) (Some bytes) ≡ true) (sym known) is

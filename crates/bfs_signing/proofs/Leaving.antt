@@ -5,7 +5,8 @@ use Rattle.std.specs.List.{AllByRecursion, cons_option, filter_map, fold, range_
 use Rattle.std.proofs.lemmas.List.Elements.{All-append, All-cons, All-from_recursion, All-head, All-nil, All-tail, Contains-append_left, Contains-append_right, recursion_from_All}
 use Rattle.std.proofs.lemmas.List.{length-map}
 use Rattle.std.proofs.lemmas.List.FromFn.{length-map-range_with_len}
-use Rattle.std.proofs.lemmas.Option.{slice_get_cases, slice_get_within}
+use Rattle.std.proofs.lemmas.Bool.{leb-true}
+use Rattle.std.proofs.lemmas.Option.{slice_get_within}
 use Rattle.lms.specs.Signers.{HssKey}
 use Rattle.bfs_signatures.specs.Hashes.{leaf_hash}
 use Rattle.bfs_signatures.specs.Laws.{SignedTextsVerify}
@@ -31,7 +32,7 @@ use Rattle.bfs_signing.specs.Lives.{begun_in, turns_of, uses_from, uses_in}
 use Rattle.bfs_signing.specs.Origins.{IsKey, IsSignedBy, IsSignedRequest, Leaves, WhatLeavesIsSigned}
 use Rattle.bfs_signing.specs.Requests.{Replaced, most_texts, none_replaced, replaced_also, replaced_with, request_with, signed_texts, signed_told, text_in, texts_told, told_with, with_signature}
 use Rattle.bfs_signing.specs.Signing.{Signing, Signs}
-use Rattle.bfs_signing.proofs.Fitting.{AreFew, given_few, request_spelled}
+use Rattle.bfs_signing.proofs.Fitting.{AreFew, given_few, passes_by_key, request_spelled, signed_spelled}
 
 -- Lists --------------------------------------------------------------------------------------------------------------------
 
@@ -91,26 +92,33 @@ module _ (clients : Clients) (came : Came) (few : AreFew clients) (key : HssKey)
         let text_there : slice_get texts so_far.used ≡ Some (body_text signed.message) =
         subst (λ (place : ℕ). slice_get texts place ≡ Some (body_text signed.message)) here (holds.aligned 0 (omega (arith, within))) in
         let is_signed : IsSignedBy key uses (body_text signed.message) signature = signed_by so_far.used (body_text signed.message) signature text_there some in
-        let is : IsSignedRequest clients came key uses (signed_text (with_signature signed signature)) = record {
-          text = told.payload;
-          origin = origin;
-          signature = signature;
-          is_signed = subst (λ (one : Signed Message). IsSignedBy key uses (body_text one.message) signature) same is_signed;
-          is_text = ap (λ (one : Signed Message). signed_text (with_signature one signature)) same;
-        } in
+        let of_origin : IsSignedBy key uses (body_text origin.asked.signed.message) signature =
+        subst (λ (one : Signed Message). IsSignedBy key uses (body_text one.message) signature) same is_signed in
         let next : (i : ℕ) → (so_far.used + 1) + i < length texts → slice_get texts ((so_far.used + 1) + i) ≡ slice_get rest i =
         λ i less.
         let there : so_far.used + suc i ≡ (so_far.used + 1) + i = omega arith in
         subst (λ (place : ℕ). slice_get texts place ≡ slice_get rest i) there (holds.aligned (suc i) (omega (arith, less))) in
         record {
-          told = All-append Right so_far.told (request_with signed signature told) holds.told (go (nat_le (length signature) most_signature_bytes) is);
+          told = All-append Right so_far.told (request_with signed signature told) holds.told
+              (subst (λ (one : Signed Message). All Right (request_with one signature told)) (sym same) (go (nat_le (length signature) most_signature_bytes) refl of_origin));
           aligned = next;
         }
       where
-        go : (short : Bool) → IsSignedRequest clients came key uses (signed_text (with_signature signed signature))
-            → All Right (cond short (record told { payload = signed_text (with_signature signed signature) } ∷ []) [])
-        go true is = All-cons Right (record told { payload = signed_text (with_signature signed signature) }) [] (right (signed_text (with_signature signed signature)) is) (All-nil Right)
-        go false is = All-nil Right
+        go : (short : Bool) → nat_le (length signature) most_signature_bytes ≡ short → IsSignedBy key uses (body_text origin.asked.signed.message) signature
+            → All Right (cond short (record told { payload = signed_text (with_signature origin.asked.signed signature) } ∷ []) [])
+        go true short is =
+            let payload = signed_text (with_signature origin.asked.signed signature) in
+            let request : IsSignedRequest clients came key uses payload = record {
+              text = told.payload;
+              origin = origin;
+              signature = signature;
+              is_signed = is;
+              is_text = refl;
+              is_read = signed_spelled clients came told.payload signature few origin (leb-true (length signature) most_signature_bytes short);
+              passes = passes_by_key key origin.asked.signed signature is.passes;
+            } in
+            All-cons Right (record told { payload = payload }) [] (right payload request) (All-nil Right)
+        go false short is = All-nil Right
 
     asked : (told : Told) (rest : List (List ℕ)) (so_far : Replaced) (origin : IsRequest clients came told.payload)
         → ((text : List ℕ) → IsSignedRequest clients came key uses text → Right (record told { payload = text }))

@@ -6,13 +6,17 @@ use Rattle.lms.specs.Signers.{HssKey, hss_public_key}
 use Rattle.bfs_signatures.specs.Signature.{is_signature}
 use Rattle.bfs_signatures.specs.Signing.{signatures_of}
 use Rattle.bfs_model.specs.Server.Limits.{most_replicas}
-use Rattle.bfs_auth.specs.Keys.{Keys}
+use Rattle.bfs_auth.specs.Keys.{Keys, public_key_of}
 use Rattle.bfs_clients.specs.Clients.{Clients}
+use Rattle.bfs_codec.specs.Reading.{message_of}
 use Rattle.bfs_filter.specs.Runs.{Exchange}
 use Rattle.bfs_frames.specs.Parcels.{Told, told_by}
 use Rattle.bfs_frames.specs.declared.parcels.To.{To}
 use Rattle.bfs_frames.specs.declared.parcels.To.TheVariants.{Caller, Replica, Replicas}
+use Rattle.bfs_messages.specs.Signing.{is_signed, sender_of}
 use Rattle.bfs_messages.specs.Spelling.{body_text, signed_text}
+use Rattle.bfs_messages.specs.declared.message.Message.{Message}
+use Rattle.bfs_messages.specs.declared.signed.Signed.{Signed}
 use Rattle.bfs_relay.specs.GivenKeys.{clients_with}
 use Rattle.bfs_relay.specs.Origins.{Came, IsAnswer, IsRequest, TurnCame}
 use Rattle.bfs_signing.specs.Indexes.{Use}
@@ -37,6 +41,10 @@ pub record IsSignedBy (key : HssKey) (uses : List Use) (text signature : List �
   pub signature_there : slice_get (signatures_of key by.index by.texts) place ≡ Some signature
   pub passes : is_signature (hss_public_key_bytes (hss_public_key key)) text signature ≡ true
 
+-- whoever knows the key's public key as its sender's finds it signed
+abbrev pub PassesBy : HssKey → Signed Message → Type 0
+PassesBy key signed = (keys : Keys) → public_key_of keys (sender_of signed.message) ≡ Some (hss_public_key_bytes (hss_public_key key)) → is_signed keys signed ≡ true
+
 -- the request that a client signed for a call, with a signature in place of its keyed hashes
 pub record IsSignedRequest (clients : Clients) (came : Came) (key : HssKey) (uses : List Use) (payload : List ℕ) : Type 0 where
   -- what the relay told
@@ -45,6 +53,8 @@ pub record IsSignedRequest (clients : Clients) (came : Came) (key : HssKey) (use
   pub signature : List ℕ
   pub is_signed : IsSignedBy key uses (body_text origin.asked.signed.message) signature
   pub is_text : payload ≡ signed_text (with_signature origin.asked.signed signature)
+  pub is_read : message_of payload ≡ Some (with_signature origin.asked.signed signature)
+  pub passes : PassesBy key (with_signature origin.asked.signed signature)
 
 abbrev pub LeavesTo : Clients → Came → HssKey → List Use → To → (payload : List ℕ) → Type 0
 LeavesTo clients came key uses Replicas payload = IsSignedRequest clients came key uses payload
