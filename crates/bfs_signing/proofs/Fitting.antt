@@ -1,6 +1,7 @@
 -- What a relay signs for a call spells the request that it signed.
-use Rattle.std.proofs.Common.{◌≡◌, ◌∙◌, ℕ, ◌+◌, ◌<◌, ◌≤◌, ◌^◌, List, [], ◌∷◌, length, map, true, Option, Some, None, refl, sym, ap, subst, arith}
-use Rattle.std.specs.Prelude.{All}
+use Rattle.std.proofs.Common.{◌≡◌, ◌∙◌, ℕ, ◌+◌, ◌<◌, ◌≤◌, ◌^◌, List, [], ◌∷◌, length, map, Bool, true, false, cond, Option, Some, None, refl, sym, ap, subst, arith}
+use Rattle.std.specs.Prelude.{All, nat_le, option_and_then}
+use Rattle.std.proofs.lemmas.Bool.{leb-true}
 use Rattle.std.specs.List.{fold, range_with_len, slice_get}
 use Rattle.std.specs.Option.{option_map}
 use Rattle.std.proofs.lemmas.List.{length-map, length-set}
@@ -12,10 +13,12 @@ use Rattle.bfs_model.specs.Server.Limits.{most_clients, most_replicas, most_requ
 use Rattle.lms.specs.Levels.{hss_public_key_bytes}
 use Rattle.lms.specs.Signers.{HssKey, hss_public_key}
 use Rattle.bfs_signatures.specs.Signature.{is_signature}
-use Rattle.bfs_auth.specs.Authenticators.{IsAuthenticator, entry_for, is_right, passes, signature}
+use Rattle.bfs_auth.specs.Authenticators.{IsAuthenticator, authenticator_at, entry_for, hashes_of, is_right, passes, signature, signature_or_none}
 use Rattle.bfs_auth.specs.Hmac.{hmac_sha256}
 use Rattle.bfs_auth.specs.Keys.{Keys, shared_with}
-use Rattle.bfs_auth.specs.Signatures.{most_signature_bytes}
+use Rattle.bfs_auth.specs.Places.{index_of, place_in}
+use Rattle.bfs_auth.specs.Signatures.{most_signature_bytes, short_enough, signature_alone}
+use Rattle.bfs_auth.specs.declared.places.Place.{Place}
 use Rattle.bfs_auth.specs.declared.authenticators.Authenticator.TheVariants.{Signature}
 use Rattle.bfs_auth.specs.declared.pairwise.SharedKeys.{SharedKeys}
 use Rattle.bfs_clients.specs.Clients.{Clients, signed_request}
@@ -83,10 +86,30 @@ unfolding hmac_sha256
 hash_long key text = length-sha256 _
 
 signature_fits : (keys : Keys) (text : List ℕ) → HasFewKeys keys → IsAuthenticator (signature keys text)
-signature_fits keys text few = (
-  omega (arith, few, length-map keys.replicas (λ (shared : SharedKeys). hmac_sha256 shared.sending text)),
-  all_of (λ (entry : List ℕ). length entry ≡ 32) (λ (shared : SharedKeys). hmac_sha256 shared.sending text) (λ shared. hash_long shared.sending text) keys.replicas,
-)
+unfolding signature
+signature_fits keys text few = go keys.signer (place_in text)
+  where
+    hashes : IsAuthenticator (hashes_of keys text)
+    hashes = (
+      omega (arith, few, length-map keys.replicas (λ (shared : SharedKeys). hmac_sha256 shared.sending text)),
+      all_of (λ (entry : List ℕ). length entry ≡ 32) (λ (shared : SharedKeys). hmac_sha256 shared.sending text) (λ shared. hash_long shared.sending text) keys.replicas,
+    )
+
+    none : IsAuthenticator (signature_or_none None)
+    none = (omega arith, All-nil (λ (entry : List ℕ). length entry ≡ 32))
+
+    short_fits : (bytes : List ℕ) (short : Bool) → nat_le (length bytes) most_signature_bytes ≡ short → IsAuthenticator (signature_or_none (cond short (Some bytes) None))
+    short_fits bytes true is = leb-true (length bytes) most_signature_bytes is
+    short_fits bytes false is = none
+
+    by_index : (key : HssKey) (index : Option ℕ) → IsAuthenticator (signature_or_none (option_and_then (λ i. short_enough (signature_alone key i text)) index))
+    by_index key None = none
+    by_index key (Some i) = short_fits (signature_alone key i text) (nat_le (length (signature_alone key i text)) most_signature_bytes) refl
+
+    go : (signer : Option HssKey) (place : Option Place) → IsAuthenticator (authenticator_at keys signer place text)
+    go None place = hashes
+    go (Some key) None = hashes
+    go (Some key) (Some place) = by_index key (index_of key place)
 
 keys_there : (clients : Clients) (client : ℕ) (keys : Keys) → AreFew clients → slice_get clients.keys client ≡ Some keys
     → (client < 2 ^ 32) × HasFewKeys keys

@@ -43,7 +43,7 @@ pub record IsSignedBy (key : HssKey) (uses : List Use) (text signature : List �
 
 -- whoever knows the key's public key as its sender's finds it signed
 abbrev pub PassesBy : HssKey → Signed Message → Type 0
-PassesBy key signed = (keys : Keys) → public_key_of keys (sender_of signed.message) ≡ Some (hss_public_key_bytes (hss_public_key key)) → is_signed keys signed ≡ true
+PassesBy key signed = (keys : Keys) → public_key_of keys (sender_of signed.message) (body_text signed.message) ≡ Some (hss_public_key_bytes (hss_public_key key)) → is_signed keys signed ≡ true
 
 -- the request that a client signed for a call, with a signature in place of its keyed hashes
 pub record IsSignedRequest (clients : Clients) (came : Came) (key : HssKey) (uses : List Use) (payload : List ℕ) : Type 0 where
