@@ -1,7 +1,7 @@
 -- What a step says of a place that is no vote's is one message, and the place was not spent before.
-use Rattle.std.proofs.Common.{◌≡◌, ℕ, ◌<◌, ◌≤◌, ◌==◌, ◌%◌, Bool, true, false, cond, ◌&&◌, List, [], ◌∷◌, Option, Some, None, option_map, inl, inr, refl, sym, ap, subst, ◌∙◌, arith}
-use Rattle.std.specs.Prelude.{bytes_eq, max, nat_le, nat_lt, not}
-use Rattle.std.proofs.lemmas.Bool.{and_parts, cond_both, ltb-true}
+use Rattle.std.proofs.Common.{◌≡◌, ℕ, ◌<◌, ◌≤◌, ◌==◌, ◌%◌, Bool, true, false, cond, ◌&&◌, List, [], Option, Some, None, option_map, refl, sym, ap, subst, ◌∙◌, arith}
+use Rattle.std.specs.Prelude.{bytes_eq, max, nat_lt, not}
+use Rattle.std.proofs.lemmas.Bool.{and_parts, ltb-true}
 use Rattle.bfs_auth.specs.Authenticators.{signature_for_client}
 use Rattle.bfs_auth.specs.Keys.{Keys}
 use Rattle.bfs_model.specs.Server.Limits.{checkpoint_interval}
@@ -35,7 +35,7 @@ use Rattle.bfs_outcome.specs.Outcome as results
 use Rattle.bfs_replies.specs.Answers.{Answer, answer_again}
 use Rattle.bfs_replies.specs.declared.tables.Class.{Class}
 use Rattle.bfs_replies.specs.declared.tables.Class.TheVariants.{New, Old, Repeat, Unknown}
-use Rattle.bfs_view_change.specs.Changes.Keeping.{changes_for, with_asked, with_change}
+use Rattle.bfs_view_change.specs.Changes.Keeping.{with_asked, with_change}
 use Rattle.bfs_view_change.specs.Changes.NewViews.{latest_checkpoint, new_view_refusal}
 use Rattle.bfs_view_change.specs.Changes.ViewChanges.{messages_of}
 use Rattle.bfs_node.specs.Adopting.{adopted, may_adopt}
@@ -51,7 +51,6 @@ use Rattle.bfs_node.specs.Settling.{settling, settling_refusal}
 use Rattle.bfs_node.specs.declared.error.NodeError.{NodeError}
 use Rattle.bfs_node.specs.declared.error.NodeError.TheVariants as error
 use Rattle.bfs_node.specs.declared.offering.Offered.TheVariants.{Waits, WaitsAlready}
-use Rattle.bfs_agreement.specs.Histories.{IsIn}
 use Rattle.bfs_nodes_agree.specs.Orders.Replicas.{votes_by}
 use Rattle.bfs_nodes_agree.specs.Nodes.Steps.{NodeStep, Delivers, Takes, TakesRequests, TakesOffered, Proposes, Executes, Fails, Checkpoints, TimesOut, LeavesFor, ForgetsAnswered, ForgetsProposed, Adopts, Settles, after_execution, or_still, outcome, still, unless}
 use Rattle.bfs_nodes_agree.proofs.Public.{AllIn, IsBounded, begins_open, left_bounded, map_in, more_in, none_in, not_refused, not_second, one_in, out_of_filter_map, reply_is, some_is, votes_own}

@@ -1,5 +1,5 @@
 -- Of all that a node gave to be sent one message is of each place that is no vote's.
-use Rattle.std.proofs.Common.{◌≡◌, List, [], ◌∷◌, Some, inl, inr, refl, sym, subst, ◌∙◌}
+use Rattle.std.proofs.Common.{◌≡◌, [], Some, inl, inr, refl, sym, subst, ◌∙◌}
 use Rattle.bfs_messages.specs.declared.message.Message.{Message}
 use Rattle.bfs_messages.specs.declared.signed.Signed.{Signed}
 use Rattle.bfs_order.specs.Laws.Calls.{CallsKeepTheReplica}

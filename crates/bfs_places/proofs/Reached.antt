@@ -1,11 +1,8 @@
 -- What holds of nodes after every list of calls and deliveries, and of a world of moves that follows them.
-use Rattle.std.proofs.Common.{◌≡◌, ℕ, Bool, List, [], ◌∷◌, map, subst}
-use Rattle.bfs_messages.specs.declared.signed.Signed.{Signed}
-use Rattle.bfs_messages.specs.declared.message.Message.{Message}
+use Rattle.std.proofs.Common.{ℕ, Bool, List, [], ◌∷◌, map, subst}
 use Rattle.bfs_codec.specs.Laws.{MessageWasWritten, OneBatch}
 use Rattle.bfs_order.specs.Laws.Calls.{CallsKeepTheReplica, IsKept}
 use Rattle.bfs_order.specs.Laws.Logs.{HasNoLaterView, IsWindowed}
-use Rattle.bfs_order.specs.Replica.States.{State}
 use Rattle.bfs_agreement.specs.Histories.{World}
 use Rattle.bfs_agreement.specs.Moves.{after_steps, new_world}
 use Rattle.bfs_agreement.proofs.Public.{Sound, run_sound, start_sound}

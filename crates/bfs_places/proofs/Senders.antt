@@ -24,7 +24,7 @@ use Rattle.bfs_order.proofs.Public.{raised_same}
 use Rattle.bfs_agreement.specs.Histories.{IsIn}
 use Rattle.bfs_nodes_agree.specs.Orders.Replicas.{OrderReplica, after_order_deed, votes_by}
 use Rattle.bfs_nodes_agree.specs.Views.Replicas.{ViewDeed, ordered_deed}
-use Rattle.bfs_nodes_agree.proofs.Public.{AllIn, after_deeds, both_in, called, either_in, either_way, none_in, passed}
+use Rattle.bfs_nodes_agree.proofs.Public.{AllIn, after_deeds, both_in, called, either_way, none_in, passed}
 
 abbrev Message : Type 0
 Message = Signed OrderMessage

@@ -1,5 +1,5 @@
 -- What says the same has one text and is of one place, and so do votes of one header.
-use Rattle.std.proofs.Common.{◌≡◌, ℕ, ◌<◌, List, ◌++◌, Option, Some, None, refl, sym, ap, ◌∙◌, arith}
+use Rattle.std.proofs.Common.{◌≡◌, ℕ, ◌<◌, List, ◌++◌, refl, sym, ap, ◌∙◌, arith}
 use Rattle.bfs_votes.specs.Votes.{Header}
 use Rattle.bfs_log.specs.Headers.{message_header}
 use Rattle.bfs_model.specs.Bytes.Items.{word}
@@ -10,7 +10,7 @@ use Rattle.bfs_messages.specs.declared.message.Message.TheVariants.{Order}
 use Rattle.bfs_messages.specs.declared.order_messages.OrderMessage.{OrderMessage}
 use Rattle.bfs_messages.specs.declared.order_messages.OrderMessage.TheVariants.{PrePrepare, Prepare, Commit, Checkpoint}
 use Rattle.bfs_nodes_agree.specs.Nodes.Premises.{SaysTheSame, order_signed_part, signed_part}
-use Rattle.bfs_places.specs.Places.{Place, order_place, place_of}
+use Rattle.bfs_places.specs.Places.{order_place, place_of}
 
 order_text_kept : (m : OrderMessage) → order_body_text (order_signed_part m) ≡ order_body_text m
 order_text_kept (PrePrepare proposal) = refl

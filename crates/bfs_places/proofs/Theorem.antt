@@ -1,6 +1,5 @@
 -- A correct replica says one text of each place.
-use Rattle.std.proofs.Common.{◌≡◌, ℕ, ◌<◌, Bool, false, List, ◌⊎◌, Some, None, inl, inr, refl, sym, ap, subst, ◌∙◌, arith}
-use Rattle.bfs_votes.specs.Tags.{pre_prepare_tag}
+use Rattle.std.proofs.Common.{◌≡◌, ℕ, ◌<◌, Bool, false, List, ◌⊎◌, Some, inl, inr, refl, sym, ap, subst, ◌∙◌, arith}
 use Rattle.bfs_votes.specs.Votes.{Header, Told, primary, says}
 use Rattle.bfs_log.specs.Headers.{header, message_header}
 use Rattle.bfs_log.specs.Logs.{Log, headers}
@@ -15,7 +14,7 @@ use Rattle.bfs_order.specs.Replica.Views.{as_proposals}
 use Rattle.bfs_node.specs.Nodes.{Messages}
 use Rattle.bfs_agreement.specs.Histories as told
 use Rattle.bfs_agreement.specs.Histories.{IsIn, World}
-use Rattle.bfs_agreement.proofs.Public.{Is, in_told, one_digest}
+use Rattle.bfs_agreement.proofs.Public.{in_told, one_digest}
 use Rattle.bfs_nodes_agree.specs.Orders.Replicas.{OrderReplica, OrderReplicas}
 use Rattle.bfs_nodes_agree.specs.Views.Changes.{told_change}
 use Rattle.bfs_nodes_agree.specs.Nodes.Premises.{HasSaid, SaysTheSame, offers_in}
@@ -24,9 +23,7 @@ use Rattle.bfs_nodes_agree.proofs.Public.{AllIn, in_map, offer_tag, out_of_map, 
 use Rattle.bfs_places.specs.Laws.{HasOneTextOfEachPlace, OneTextOfEachPlace}
 use Rattle.bfs_places.specs.Places.{Checkpoint, NewView, Place, ViewChange, Vote, order_place, place_of}
 use Rattle.bfs_places.proofs.Fresh.{IsLone, vote_silent}
-use Rattle.bfs_places.proofs.Once.{Once}
 use Rattle.bfs_places.proofs.Reached.{Below, Facts, always}
-use Rattle.bfs_places.proofs.Senders.{IsKinded}
 use Rattle.bfs_places.proofs.Texts.{header_tells, same_place, same_text}
 
 -- Places that are no votes' -----------------------------------------------------------------------------------------------------
