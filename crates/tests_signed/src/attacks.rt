@@ -1,0 +1,134 @@
+//! Five lies that stop ordering for ever by keyed hashes, and don't by signatures; and one that doesn't by either.
+use crate::keys::Known;
+use crate::scenes::{Copies, Lie, Outcome, Scene, Step};
+use bfs_testing::same;
+use bfs_testing_liars::sets::Set;
+use bfs_types::Memory;
+use std::alloc::Global;
+use std::sync::Wait;
+use std::test::Fail;
+use std::thread::Threads;
+
+/// A lie, what happens, and what those that don't lie refuse of one another's by keyed hashes.
+struct Attack {
+    lie: Lie,
+    steps: &'static [Step],
+    refused: &'static [(u32, u32)],
+}
+
+// what a liar can make by signatures
+static COPIES: [Copies; 5] = [
+    Copies::Own,
+    Copies::Changed,
+    Copies::OfAnother,
+    Copies::HashesForEach,
+    Copies::OwnFor(1),
+];
+
+// that the lie passes at some alone, that this is refused, and that nothing is executed any more
+fn stops(outcome: &Outcome, refused: &[(u32, u32)]) -> bool {
+    outcome.is_split && outcome.refused.as_slice() == refused && outcome.views.is_none()
+}
+
+// that the lie passes at all or at none, that nothing is refused, and that it is executed in the next view
+fn goes_on(outcome: &Outcome) -> bool {
+    !outcome.is_split && outcome.refused.is_empty() && outcome.views == Some(1)
+}
+
+fn by_hashes<R: Threads + Wait + Sync>(
+    rt: &R,
+    alloc: Global,
+    attack: &Attack,
+) -> Result<Outcome, Memory> {
+    let known = Known::none(alloc);
+    Scene::new(alloc, &known, attack.lie, Copies::HashesForEach)?.play(rt, attack.steps)
+}
+
+// the first form of copies with which it does not go on, and what came of it then
+fn by_signatures<R: Threads + Wait + Sync>(
+    rt: &R,
+    alloc: Global,
+    attack: &Attack,
+) -> Result<Option<(Copies, Outcome)>, Memory> {
+    let known = Known::all(alloc)?;
+    for copies in COPIES.iter().copied() {
+        let outcome = Scene::new(alloc, &known, attack.lie, copies)?.play(rt, attack.steps)?;
+        if !goes_on(&outcome) {
+            return Ok(Some((copies, outcome)));
+        }
+    }
+    Ok(None)
+}
+
+static REQUEST: Attack = Attack {
+    lie: Lie::Request,
+    steps: &[Step::Lie(Set::ALL), Step::Settle, Step::Propose(0), Step::Settle],
+    refused: &[(2, 24)],
+};
+
+static PROPOSAL: Attack = Attack {
+    lie: Lie::Proposal,
+    steps: &[Step::Lie(Set::ALL), Step::Settle],
+    refused: &[(6, 31)],
+};
+
+static PREPARE: Attack = Attack {
+    lie: Lie::Prepare,
+    steps: &[Step::Propose(0), Step::Lie(Set::ALL), Step::Settle],
+    refused: &[(6, 31)],
+};
+
+// replica 2 hears nothing of 16 numbers; it refuses the snapshot, and what the others ask for
+static CHECKPOINT: Attack = Attack {
+    lie: Lie::Checkpoint,
+    steps: &[
+        Step::Hear(Set(0b1011)),
+        Step::Batches(16),
+        Step::Lie(Set::ALL),
+        Step::Settle,
+        Step::Hear(Set(0b0111)),
+        Step::Adopt(2, 0),
+    ],
+    refused: &[(5, 34), (6, 31), (7, 31)],
+};
+
+static VIEW_CHANGE: Attack = Attack {
+    lie: Lie::ViewChange,
+    steps: &[Step::Propose(0), Step::Settle],
+    refused: &[(7, 31)],
+};
+
+#[test]
+fn a_request(rt: HostRuntime) -> Result<(), Fail> {
+    println!(rt; "{:?}", by_hashes(&rt, rt.alloc(), &REQUEST)?)?;
+    println!(rt; "{:?}", by_signatures(&rt, rt.alloc(), &REQUEST)?)?;
+    Ok(())
+}
+
+#[test]
+fn a_proposal(rt: HostRuntime) -> Result<(), Fail> {
+    println!(rt; "{:?}", by_hashes(&rt, rt.alloc(), &PROPOSAL)?)?;
+    println!(rt; "{:?}", by_signatures(&rt, rt.alloc(), &PROPOSAL)?)?;
+    Ok(())
+}
+
+#[test]
+fn a_prepare(rt: HostRuntime) -> Result<(), Fail> {
+    println!(rt; "{:?}", by_hashes(&rt, rt.alloc(), &PREPARE)?)?;
+    println!(rt; "{:?}", by_signatures(&rt, rt.alloc(), &PREPARE)?)?;
+    Ok(())
+}
+
+#[test]
+fn a_checkpoint(rt: HostRuntime) -> Result<(), Fail> {
+    println!(rt; "{:?}", by_hashes(&rt, rt.alloc(), &CHECKPOINT)?)?;
+    println!(rt; "{:?}", by_signatures(&rt, rt.alloc(), &CHECKPOINT)?)?;
+    Ok(())
+}
+
+#[test]
+fn a_view_change(rt: HostRuntime) -> Result<(), Fail> {
+    println!(rt; "{:?}", by_hashes(&rt, rt.alloc(), &VIEW_CHANGE)?)?;
+    println!(rt; "{:?}", by_signatures(&rt, rt.alloc(), &VIEW_CHANGE)?)?;
+    Ok(())
+}
