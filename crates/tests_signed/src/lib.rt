@@ -8,4 +8,6 @@ mod keys;
 #[cfg(test)]
 mod scenes;
 #[cfg(test)]
+mod schedules;
+#[cfg(test)]
 mod voices;

@@ -2,7 +2,9 @@
 use crate::keys::{Known, MEMBERS};
 use crate::voices::{Form, Voice};
 use bfs_auth::{Keys, Principal};
-use bfs_messages::{Checkpoint, Message, OrderMessage, PrePrepare, Signed, ViewChange, Vote, is_signed};
+use bfs_messages::{
+    Checkpoint, Message, OrderMessage, PrePrepare, Signed, ViewChange, Vote, is_signed,
+};
 use bfs_node::Lag;
 use bfs_replies::Class;
 use bfs_testing_liars::liars::batch_of;
@@ -442,9 +444,20 @@ impl Scene {
         Ok(None)
     }
 
+    fn outcome(&mut self, views: Option<u32>) -> Result<Outcome, Memory> {
+        if self.world.record.is_wrong() {
+            return Err(Memory);
+        }
+        Ok(Outcome {
+            is_split: self.is_split,
+            refused: std::mem::replace(&mut self.refused, Vec::new(self.alloc)),
+            views,
+        })
+    }
+
     /// Plays some steps, and then two views more, in which the liar is silent but for what it lies in each of them.
     pub fn play<R: Threads + Wait + Sync>(
-        mut self,
+        &mut self,
         rt: &R,
         steps: &[Step],
     ) -> Result<Outcome, Memory> {
@@ -452,13 +465,6 @@ impl Scene {
             self.take(rt, *step)?;
         }
         let views = self.go_on(rt)?;
-        if self.world.record.is_wrong() {
-            return Err(Memory);
-        }
-        Ok(Outcome {
-            is_split: self.is_split,
-            refused: self.refused,
-            views,
-        })
+        self.outcome(views)
     }
 }

@@ -1,5 +1,5 @@
 //! In which forms a text can be sent by one that lies.
-use crate::keys::{MEMBERS, Known, signer_of, unknown_signer};
+use crate::keys::{Known, MEMBERS, signer_of, unknown_signer};
 use bfs_auth::{Authenticator, Keys, MOST_SIGNATURE_BYTES, Principal, Text, sign_text};
 use bfs_messages::{Message, Signed};
 use bfs_signatures::{leaf_hasher, sign_all};
@@ -31,7 +31,6 @@ pub struct Voice {
     hashing: Keys,
     // none where it signs by keyed hashes alone
     signer: Option<Signer>,
-    unknown: Signer,
     next: u64,
 }
 
@@ -95,7 +94,6 @@ impl Voice {
             holder,
             hashing: MEMBERS.keys(alloc, holder)?,
             signer,
-            unknown: unknown_signer(alloc)?,
             next: 0,
         })
     }
@@ -132,7 +130,8 @@ impl Voice {
             Form::Own => self.own(message),
             Form::Changed => changed(self.alloc, self.own(message)?),
             Form::OfAnother => {
-                let auth = signature(self.alloc, &mut self.unknown, self.next, &message)?;
+                let mut unknown = unknown_signer(self.alloc)?;
+                let auth = signature(self.alloc, &mut unknown, self.next, &message)?;
                 Ok(Signed { message, auth })
             }
             Form::HashesFor(one) => {
