@@ -1,7 +1,7 @@
 //! Five lies that stop ordering for ever by keyed hashes, and don't by signatures; and one that doesn't by either.
 use crate::keys::Known;
 use crate::scenes::{Copies, Lie, Outcome, Scene, Step};
-use bfs_testing::{holds, same};
+use bfs_testing::same;
 use bfs_testing_liars::sets::Set;
 use bfs_types::Memory;
 use std::alloc::Global;
@@ -17,7 +17,13 @@ struct Attack {
 }
 
 // what a liar can make by signatures
-static COPIES: [Copies; 1] = [Copies::Own];
+static COPIES: [Copies; 5] = [
+    Copies::Own,
+    Copies::Changed,
+    Copies::OfAnother,
+    Copies::HashesForEach,
+    Copies::OwnFor(1),
+];
 
 // that the lie passes at some alone, that this is refused, and that nothing is executed any more
 fn stops(outcome: &Outcome, refused: &[(u32, u32)]) -> bool {
@@ -40,14 +46,16 @@ fn outcome_of<R: Threads + Wait + Sync>(
     scene.play(rt, attack.steps)
 }
 
-fn stops_by_hashes<R: Threads + Wait + Sync>(
+// whether ordering stops where each copy is right for its receiver alone, and goes on where each is right for all
+fn by_hashes<R: Threads + Wait + Sync>(
     rt: &R,
     alloc: Global,
     attack: &Attack,
-) -> Result<bool, Memory> {
+) -> Result<(bool, bool), Memory> {
     let known = Known::none(alloc);
-    let outcome = outcome_of(rt, alloc, &known, attack, Copies::HashesForEach)?;
-    Ok(stops(&outcome, attack.refused))
+    let wrong = outcome_of(rt, alloc, &known, attack, Copies::HashesForEach)?;
+    let right = outcome_of(rt, alloc, &known, attack, Copies::Own)?;
+    Ok((stops(&wrong, attack.refused), goes_on(&right)))
 }
 
 // the first form of copies with which it does not go on, and what came of it then
@@ -111,40 +119,40 @@ static VIEW_CHANGE: Attack = Attack {
 
 #[test]
 fn a_request(rt: HostRuntime) -> Result<(), Fail> {
-    holds!(rt; stops_by_hashes(&rt, rt.alloc(), &REQUEST)?);
+    same!(rt; by_hashes(&rt, rt.alloc(), &REQUEST)?, (true, true));
     same!(rt; wrong_by_signatures(&rt, rt.alloc(), &REQUEST)?, None);
     Ok(())
 }
 
 #[test]
 fn a_proposal(rt: HostRuntime) -> Result<(), Fail> {
-    holds!(rt; stops_by_hashes(&rt, rt.alloc(), &PROPOSAL)?);
+    same!(rt; by_hashes(&rt, rt.alloc(), &PROPOSAL)?, (true, true));
     same!(rt; wrong_by_signatures(&rt, rt.alloc(), &PROPOSAL)?, None);
     Ok(())
 }
 
 #[test]
 fn a_prepare(rt: HostRuntime) -> Result<(), Fail> {
-    holds!(rt; stops_by_hashes(&rt, rt.alloc(), &PREPARE)?);
+    same!(rt; by_hashes(&rt, rt.alloc(), &PREPARE)?, (true, true));
     same!(rt; wrong_by_signatures(&rt, rt.alloc(), &PREPARE)?, None);
     Ok(())
 }
 
 #[test]
 fn a_checkpoint(rt: HostRuntime) -> Result<(), Fail> {
-    holds!(rt; stops_by_hashes(&rt, rt.alloc(), &CHECKPOINT)?);
+    same!(rt; by_hashes(&rt, rt.alloc(), &CHECKPOINT)?, (true, true));
     same!(rt; wrong_by_signatures(&rt, rt.alloc(), &CHECKPOINT)?, None);
     Ok(())
 }
 
 #[test]
 fn a_view_change(rt: HostRuntime) -> Result<(), Fail> {
-    holds!(rt; stops_by_hashes(&rt, rt.alloc(), &VIEW_CHANGE)?);
+    same!(rt; by_hashes(&rt, rt.alloc(), &VIEW_CHANGE)?, (true, true));
     same!(rt; wrong_by_signatures(&rt, rt.alloc(), &VIEW_CHANGE)?, None);
     Ok(())
 }
 
-// replica 0 executes by that COMMIT before replica 2's comes, and the others don't
+// replica 2's COMMITs come late: those that take the liar's execute before
 static COMMIT: Attack = Attack {
     lie: Lie::Commit,
     steps: &[

@@ -4,6 +4,8 @@
 #[cfg(test)]
 mod attacks;
 #[cfg(test)]
+mod calm;
+#[cfg(test)]
 mod keys;
 #[cfg(test)]
 mod scenes;

@@ -1,12 +1,11 @@
 //! Four replicas of which one may lie, a client that may lie, and one that doesn't: what is lied, and how they go on.
+use crate::calm::{count_executed, execute, next_view, resend};
 use crate::keys::{Known, MEMBERS};
 use crate::voices::{Form, Voice};
 use bfs_auth::{Keys, Principal};
 use bfs_messages::{
     Checkpoint, Message, OrderMessage, PrePrepare, Signed, ViewChange, Vote, is_signed,
 };
-use bfs_node::Lag;
-use bfs_replies::Class;
 use bfs_testing_liars::liars::batch_of;
 use bfs_testing_liars::sets::Set;
 use bfs_testing_liars::world::{Flight, World};
@@ -186,17 +185,6 @@ impl Scene {
         self.world.liars.others()
     }
 
-    // the view above those that they have asked for
-    fn next_view(&self) -> u64 {
-        let mut view = 0;
-        for number in 0..4 {
-            if self.correct().has(number) {
-                view = self.world.asked(number).max(view);
-            }
-        }
-        view.saturating_add(1)
-    }
-
     // the vote of the PRE-PREPARE that was sent last, as the liar's
     fn vote(&self) -> Option<Vote> {
         let on = self.world.proposed.last()?;
@@ -220,7 +208,7 @@ impl Scene {
             }
             Lie::ViewChange => Message::ViewChange(ViewChange::new(
                 liar,
-                self.next_view() % (1 << 63),
+                next_view(&self.world, self.correct()) % (1 << 63),
                 0,
                 Vec::new(self.alloc),
                 Vec::new(self.alloc),
@@ -312,19 +300,10 @@ impl Scene {
         Ok(())
     }
 
-    fn execute<R: Threads + Wait + Sync>(&mut self, rt: &R) -> Result<(), Memory> {
-        for number in 0..4 {
-            if self.heard.has(number) {
-                self.world.execute(rt, number)?;
-            }
-        }
-        Ok(())
-    }
-
     fn settle<R: Threads + Wait + Sync>(&mut self, rt: &R) -> Result<(), Memory> {
         for _ in 0..ROUNDS {
             self.hand_over(rt)?;
-            self.execute(rt)?;
+            execute(rt, &mut self.world, self.heard)?;
         }
         self.hand_over(rt)
     }
@@ -333,7 +312,7 @@ impl Scene {
         for _ in 0..count {
             self.world.propose(0)?;
             self.hand_over(rt)?;
-            self.execute(rt)?;
+            execute(rt, &mut self.world, self.heard)?;
         }
         self.hand_over(rt)
     }
@@ -359,34 +338,6 @@ impl Scene {
         }
     }
 
-    fn resend_to(&mut self, from: usize, to: usize) -> Result<(), Memory> {
-        let (Some(node), Some(other)) = (self.world.nodes.get(from), self.world.nodes.get(to))
-        else {
-            return Ok(());
-        };
-        let sent = node.resend(Lag {
-            view: other.view(),
-            last: other.last_executed(),
-            stable: other.stable_number(),
-        })?;
-        for signed in &sent {
-            self.world.put(signed, Set::of(to), false)?;
-        }
-        Ok(())
-    }
-
-    fn resend(&mut self) -> Result<(), Memory> {
-        self.lost = None;
-        for from in 0..4 {
-            for to in 0..4 {
-                if from != to && self.heard.has(from) && self.heard.has(to) {
-                    self.resend_to(from, to)?;
-                }
-            }
-        }
-        Ok(())
-    }
-
     fn take<R: Threads + Wait + Sync>(&mut self, rt: &R, step: Step) -> Result<(), Memory> {
         match step {
             Step::Hear(heard) => self.heard = heard,
@@ -396,7 +347,10 @@ impl Scene {
             Step::Batches(count) => self.order(rt, count)?,
             Step::Adopt(number, from) => self.adopt(rt, number, from)?,
             Step::Lose(kind, sender) => self.lost = Some((kind, sender)),
-            Step::Resend => self.resend()?,
+            Step::Resend => {
+                self.lost = None;
+                resend(&mut self.world, self.heard)?;
+            }
         }
         Ok(())
     }
@@ -408,19 +362,9 @@ impl Scene {
         self.world.put(&signed, Set::ALL, false)
     }
 
-    // whether all that don't lie have executed that
-    fn have_executed(&self) -> bool {
-        for (number, node) in self.world.nodes.iter().enumerate() {
-            if self.correct().has(number) && matches!(node.classify(0, 1), Class::New) {
-                return false;
-            }
-        }
-        true
-    }
-
     // all that don't lie leave for the next view, and its primary proposes
     fn change_view<R: Threads + Wait + Sync>(&mut self, rt: &R) -> Result<(), Memory> {
-        let view = self.next_view();
+        let view = next_view(&self.world, self.correct());
         if self.lie == Lie::ViewChange {
             self.tell(Set::ALL)?;
         }
@@ -435,9 +379,11 @@ impl Scene {
     // in how many views more they have executed what the client asks for
     fn go_on<R: Threads + Wait + Sync>(&mut self, rt: &R) -> Result<Option<u32>, Memory> {
         self.ask()?;
+        let wanted = if self.lie.liar().is_some() { 3 } else { 4 };
         for views in 1..3 {
             self.change_view(rt)?;
-            if self.have_executed() {
+            let correct = self.correct();
+            if count_executed(&self.world, correct, 0, 1) == wanted {
                 return Ok(Some(views));
             }
         }

@@ -1,11 +1,10 @@
 //! Schedules of four replicas that sign, of which one lies, as one of two clients does, each by all forms of texts; faults end, and what the other client asks
 //! for is executed.
+use crate::calm::{count_executed, execute, next_view, resend};
 use crate::keys::{Known, MEMBERS};
 use crate::voices::{Form, Voice};
 use bfs_auth::Principal;
 use bfs_messages::Message;
-use bfs_node::Lag;
-use bfs_replies::Class;
 use bfs_testing::generated::Generator;
 use bfs_testing::same;
 use bfs_testing_liars::checks::Seen;
@@ -84,23 +83,9 @@ impl Play {
         self.world.liars.others()
     }
 
-    // whether a replica has executed what the client asks for
-    fn has_executed(&self, number: usize) -> bool {
-        match self.world.nodes.get(number) {
-            Some(node) => !matches!(node.classify(0, self.timestamp as u64), Class::New),
-            None => false,
-        }
-    }
-
-    // how many that don't lie have
+    // how many that don't lie have executed what the client asks for
     fn count_executed(&self) -> u32 {
-        let mut count = 0u32;
-        for number in 0..4 {
-            if self.correct().has(number) && self.has_executed(number) {
-                count = count.saturating_add(1);
-            }
-        }
-        count
+        count_executed(&self.world, self.correct(), 0, self.timestamp as u64)
     }
 
     // the client asks for something new once f + 1 have told it a result, and else once more
@@ -206,46 +191,24 @@ impl Play {
         Ok(())
     }
 
-    fn execute<R: Threads + Wait + Sync>(&mut self, rt: &R) -> Result<(), Memory> {
-        for number in 0..4 {
-            if self.correct().has(number) {
-                self.world.execute(rt, number)?;
-            }
-        }
-        Ok(())
-    }
-
     fn settle<R: Threads + Wait + Sync>(&mut self, rt: &R) -> Result<(), Memory> {
         for _ in 0..SETTLING {
             self.hand_over(rt)?;
-            self.execute(rt)?;
+            let correct = self.correct();
+            execute(rt, &mut self.world, correct)?;
         }
         self.hand_over(rt)
     }
 
-    fn resend_to(&mut self, from: usize, to: usize) -> Result<(), Memory> {
-        let (Some(node), Some(other)) = (self.world.nodes.get(from), self.world.nodes.get(to))
-        else {
-            return Ok(());
-        };
-        let sent = node.resend(Lag {
-            view: other.view(),
-            last: other.last_executed(),
-            stable: other.stable_number(),
-        })?;
-        for signed in &sent {
-            self.world.put(signed, Set::of(to), false)?;
-        }
-        Ok(())
-    }
-
     // each gives the others what they lack, and adopts what they have
     fn come_up<R: Threads + Wait + Sync>(&mut self, rt: &R) -> Result<(), Memory> {
-        for from in 0..4 {
-            for to in 0..4 {
-                if from != to && self.correct().has(from) && self.correct().has(to) {
-                    self.resend_to(from, to)?;
-                    self.world.adopt(rt, to, from)?;
+        let correct = self.correct();
+        resend(&mut self.world, correct)?;
+        self.settle(rt)?;
+        for number in 0..4 {
+            for from in 0..4 {
+                if correct.has(number) && correct.has(from) {
+                    self.world.adopt(rt, number, from)?;
                 }
             }
         }
@@ -254,13 +217,7 @@ impl Play {
 
     // those that don't lie leave for the next view, and its primary proposes what the client asks for
     fn change_view<R: Threads + Wait + Sync>(&mut self, rt: &R) -> Result<(), Memory> {
-        let mut view = 0;
-        for number in 0..4 {
-            if self.correct().has(number) {
-                view = self.world.asked(number).max(view);
-            }
-        }
-        let view = view.saturating_add(1);
+        let view = next_view(&self.world, self.correct());
         let correct = self.correct();
         self.world.leave(correct, view)?;
         self.settle(rt)?;
