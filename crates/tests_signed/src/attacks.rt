@@ -117,37 +117,48 @@ static VIEW_CHANGE: Attack = Attack {
     refused: &[(7, 31)],
 };
 
+// the first of the five with which ordering doesn't stop by copies that are right for one alone, or doesn't go on by those that are right for all
+fn wrong_by_hashes<R: Threads + Wait + Sync>(rt: &R, alloc: Global) -> Result<Option<Lie>, Memory> {
+    for attack in [&REQUEST, &PROPOSAL, &PREPARE, &CHECKPOINT, &VIEW_CHANGE] {
+        if by_hashes(rt, alloc, attack)? != (true, true) {
+            return Ok(Some(attack.lie));
+        }
+    }
+    Ok(None)
+}
+
+#[test]
+fn each_stops_by_keyed_hashes(rt: HostRuntime) -> Result<(), Fail> {
+    same!(rt; wrong_by_hashes(&rt, rt.alloc())?, None);
+    Ok(())
+}
+
 #[test]
 fn a_request(rt: HostRuntime) -> Result<(), Fail> {
-    same!(rt; by_hashes(&rt, rt.alloc(), &REQUEST)?, (true, true));
     same!(rt; wrong_by_signatures(&rt, rt.alloc(), &REQUEST)?, None);
     Ok(())
 }
 
 #[test]
 fn a_proposal(rt: HostRuntime) -> Result<(), Fail> {
-    same!(rt; by_hashes(&rt, rt.alloc(), &PROPOSAL)?, (true, true));
     same!(rt; wrong_by_signatures(&rt, rt.alloc(), &PROPOSAL)?, None);
     Ok(())
 }
 
 #[test]
 fn a_prepare(rt: HostRuntime) -> Result<(), Fail> {
-    same!(rt; by_hashes(&rt, rt.alloc(), &PREPARE)?, (true, true));
     same!(rt; wrong_by_signatures(&rt, rt.alloc(), &PREPARE)?, None);
     Ok(())
 }
 
 #[test]
 fn a_checkpoint(rt: HostRuntime) -> Result<(), Fail> {
-    same!(rt; by_hashes(&rt, rt.alloc(), &CHECKPOINT)?, (true, true));
     same!(rt; wrong_by_signatures(&rt, rt.alloc(), &CHECKPOINT)?, None);
     Ok(())
 }
 
 #[test]
 fn a_view_change(rt: HostRuntime) -> Result<(), Fail> {
-    same!(rt; by_hashes(&rt, rt.alloc(), &VIEW_CHANGE)?, (true, true));
     same!(rt; wrong_by_signatures(&rt, rt.alloc(), &VIEW_CHANGE)?, None);
     Ok(())
 }
