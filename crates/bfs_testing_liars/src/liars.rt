@@ -52,11 +52,16 @@ pub fn spoiled<T: Drop>(alloc: Global, signed: Signed<T>, wrong: Set) -> Result<
 
 impl Liar {
     pub fn new(alloc: Global, members: Members, number: u32) -> Result<Liar, Memory> {
-        Ok(Liar {
+        Ok(Liar::with_keys(alloc, number, members.keys_of(alloc, number)?))
+    }
+
+    /// The replica of that number, with keys of its own.
+    pub fn with_keys(alloc: Global, number: u32, keys: Keys) -> Liar {
+        Liar {
             alloc,
             number,
-            keys: members.keys_of(alloc, number)?,
-        })
+            keys,
+        }
     }
 
     fn sign(&self, message: OrderMessage) -> Result<Signed<Message>, Memory> {
