@@ -35,6 +35,11 @@ def chosen(words, known, usual=()):
     return words or usual or known
 
 
+def signing(settings):
+    """Words of `tools/bfs keys` and `tools/kernel` for the settings `heights` and `unsigned`."""
+    return [*(["--heights", settings["heights"]] if settings["heights"] else []), *(["--unsigned"] if settings["unsigned"] else [])]
+
+
 def build(crate, *words):
     """Builds the program of a crate and tries it with these words. Where one of these fails, what was said is printed."""
     tried = subprocess.run(["rt", "run", "--", *words], cwd=crate, stdout=subprocess.PIPE, stderr=subprocess.STDOUT, text=True, errors="replace")

@@ -1,6 +1,6 @@
 """Messages read from bytes, strictly: what has another spelling, or breaks a limit, is a `Fault`. Their texts are spelled in `messages`."""
 from messages import (
-    CHECKPOINT, COMMIT, NEW_VIEW, NULL, PRE_PREPARE, PREPARE, REPLY, REQUEST, VIEW_CHANGE,
+    CHECKPOINT, COMMIT, NEW_VIEW, NULL, PRE_PREPARE, PREPARE, REPLY, REQUEST, SIGNATURE_MARK, VIEW_CHANGE,
     Batch, Certificate, Checkpoint, NewView, PrePrepare, Reply, Request, Signed, ViewChange, Vote,
 )  # fmt: skip
 from xdr import Fault, Reader
@@ -9,6 +9,7 @@ MOST_OF_A_KIND = 31  # messages of different replicas, and entries of an authent
 MOST_NUMBERS = 32  # certificates, and PRE-PREPAREs of a NEW-VIEW
 MOST_REQUESTS = 1_024
 MOST_BYTES = 16_384  # of a call, and of a result
+MOST_SIGNATURE_BYTES = 12_288
 
 
 def decode(data):
@@ -25,8 +26,18 @@ def signed_in(reader, wanted=None):
     if tag not in READERS or wanted not in (None, tag):
         raise Fault("kind")
     finish = READERS[tag](reader, tag, sender)
-    entries = tuple(reader.raw(32) for _ in range(reader.count(MOST_OF_A_KIND)))
-    return Signed(finish(), entries)
+    authenticator = authenticator_in(reader)
+    return Signed(finish(), *authenticator)
+
+
+def authenticator_in(reader):
+    """Keyed hashes, or none and a signature."""
+    count = reader.word()
+    if count == SIGNATURE_MARK:
+        return (), reader.opaque(MOST_SIGNATURE_BYTES)
+    if count > MOST_OF_A_KIND:
+        raise Fault("many")
+    return (tuple(reader.raw(32) for _ in range(count)),)
 
 
 def number_in(reader):

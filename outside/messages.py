@@ -6,20 +6,30 @@ from hashlib import sha256
 from xdr import double, opaque, words
 
 REQUEST, PRE_PREPARE, PREPARE, COMMIT, CHECKPOINT, VIEW_CHANGE, NEW_VIEW, REPLY = range(1, 9)
+SIGNATURE_MARK = 0xFFFF_FFFF  # stands in front of a signature, where keyed hashes have their number
 
 
 @dataclass(frozen=True)
 class Signed:
-    """A message, and its sender's keyed hash for each receiver."""
+    """A message, and its sender's keyed hash for each receiver, or in the place of these a signature, which is for all."""
 
     message: object
     entries: tuple
+    signature: bytes | None = None
 
     @cached_property
     def text(self):
         """The bytes that are sent. A PRE-PREPARE is followed by its batch, which its digest stands for in the keyed hashes."""
         behind = self.message.batch.text if self.message.tag == PRE_PREPARE else b""
-        return self.message.body + words(len(self.entries)) + b"".join(self.entries) + behind
+        return self.message.body + self.authenticator + behind
+
+    @property
+    def authenticator(self):
+        return words(len(self.entries)) + b"".join(self.entries) if self.signature is None else words(SIGNATURE_MARK) + opaque(self.signature)
+
+    def read_by(self, receiver):
+        """What a receiver reads of the authenticator: its keyed hash, or the whole signature."""
+        return self.entries[receiver] if self.signature is None else self.signature
 
 
 def texts(messages):

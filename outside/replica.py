@@ -75,8 +75,8 @@ class Replica:
         return []
 
     def is_alike(self, one, other):
-        """Whether two requests are the same to this replica, which reads one keyed hash of each."""
-        return (one.message.body, one.entries[self.me]) == (other.message.body, other.entries[self.me])
+        """Whether two requests are the same to this replica, which reads one keyed hash of each, or the signature."""
+        return (one.message.body, one.read_by(self.me)) == (other.message.body, other.read_by(self.me))
 
     def forget_answered(self):
         """What was executed waits no longer."""

@@ -1,8 +1,9 @@
-"""andrew [rounds=N replica=PATH relay=PATH ganesha=1]: phases like those of the Andrew benchmark, by a real kernel on one replica and on four.
+"""andrew [rounds=N replica=PATH relay=PATH heights=H,H,H unsigned=1 ganesha=1]: phases of a kernel's work, on one replica and on four.
 
-`tools/kernel` does each, as often as there are rounds (2), in turn: the least seconds of a phase. The machine is QEMU's, without a processor's help, and the
-same for all: what it takes itself is in all figures. With `ganesha=1` Debian's one NFS server in user space stands beside them, over a file system in memory, by
-version 3, since it speaks no version 2. Without programs these are the built ones.
+They are like those of the Andrew benchmark. `tools/kernel` does each, as often as there are rounds (2), in turn: the least seconds of a phase. The machine is
+QEMU's, without a processor's help, and the same for all: what it takes itself is in all figures. With `ganesha=1` Debian's one NFS server in user space stands
+beside them, over a file system in memory, by version 3, since it speaks no version 2. Without programs these are the built ones. `heights=` are those of the trees
+by which the relay signs; with `unsigned=1` nothing is signed.
 """
 import subprocess
 import sys
@@ -10,7 +11,7 @@ import sys
 import lib
 from service import ganesha
 
-SETTINGS = {"rounds": 2, "replica": "", "relay": "", "ganesha": 0}
+SETTINGS = {"rounds": 2, "replica": "", "relay": "", "heights": "", "unsigned": 0, "ganesha": 0}
 
 
 def phases(*words):
@@ -33,6 +34,7 @@ def main(room, words):
     lib.chosen([name for name, *_ in pairs], SETTINGS)
     settings = {**SETTINGS, **{name: type(SETTINGS[name])(value) for name, _, value in pairs}}
     options = [f"--{name}-program={settings[name]}" for name in ("replica", "relay") if settings[name]]
+    options += lib.signing(settings)
     servers = {"one replica": lambda: phases("--f", 0, *options), "four": lambda: phases("--f", 1, *options)}
     if settings["ganesha"]:
         servers["Ganesha"] = lambda: by_ganesha(room)

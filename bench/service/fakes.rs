@@ -236,7 +236,8 @@ fn main() -> io::Result<()> {
     if words[0].ends_with("fake_replica") {
         return serve(Replica { me: number(&words[2], "replica"), faults, ..Replica::default() }, "fake replica");
     }
-    let first = number(&words[3], "client");
-    let free = (first..first + words.len() as u32 - 3).collect();
+    let front = if words[3] == "--key" { 6 } else { 3 };
+    let first = number(&words[front], "client");
+    let free = (first..first + (words.len() - front) as u32).collect();
     serve(Relay { faults, free, calls: VecDeque::new(), waits: HashMap::new(), timestamp: 0 }, "fake relay")
 }

@@ -1,10 +1,10 @@
-"""service [f=N seconds=N clients=N replica=PATH relay=PATH bfs=PATH ganesha=1]: what calls take through a relay and replicas as processes.
+"""service [f=N seconds=N clients=N replica=PATH relay=PATH heights=H,H,H unsigned=1 bfs=PATH ganesha=1]: what calls take through a relay and replicas.
 
 GETATTRs and WRITEs of 8 KiB, 1 and 64 at a time, on this machine: calls a second, the median and the slowest hundredth of the times that calls took, and the
 processor time of a call in transports (their part of both) and in filters; beside them what appending and syncing alone takes, in the folder where replicas
 do that before they answer. Without programs the filters are bench/service/fakes.rs, which do next to nothing.
-`bfs=` names another checkout's tools/bfs. With `ganesha=1` it is Debian's one NFS server in user space instead, alone and with its files in memory, by
-version 3 of NFS, since it speaks no version 2.
+`heights=` are those of the trees by which the relay signs; with `unsigned=1` nothing is signed. `bfs=` names another checkout's tools/bfs. With `ganesha=1` it is Debian's
+one NFS server in user space instead, alone and with its files in memory, by version 3 of NFS, since it speaks no version 2.
 """
 import os
 import pathlib
@@ -19,7 +19,7 @@ import time
 import lib
 from service import ganesha
 
-SETTINGS = {"f": 1, "seconds": 5, "clients": 64, "replica": "", "relay": "", "bfs": str(lib.TOP / "tools/bfs"), "ganesha": 0}
+SETTINGS = {"f": 1, "seconds": 5, "clients": 64, "replica": "", "relay": "", "bfs": str(lib.TOP / "tools/bfs"), "heights": "", "unsigned": 0, "ganesha": 0}
 BLOCK, BLOCKS = 8_192, 64  # bytes of a WRITE, and how many of them the file has
 AT_A_TIME = 1, 64
 WARM = 0.5  # seconds before it is measured
@@ -130,7 +130,8 @@ class Service:
         folder, count = f"{room}/cluster", 3 * settings["f"] + 1
         *ports, self.port = free_ports(count + 1)
         bfs = sys.executable, settings["bfs"]
-        subprocess.run([*bfs, "keys", folder, "--f", str(settings["f"]), "--clients", str(settings["clients"])], check=True, stdout=subprocess.DEVNULL)
+        words = ["--f", str(settings["f"]), "--clients", str(settings["clients"]), *lib.signing(settings)]
+        subprocess.run([*bfs, "keys", folder, *words], check=True, stdout=subprocess.DEVNULL)
         path = pathlib.Path(folder, "cluster.toml")
         text = path.read_text().replace("127.0.0.1:2049", f"127.0.0.1:{self.port}")
         for number, port in enumerate(ports):

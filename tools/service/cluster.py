@@ -5,14 +5,16 @@ import tomllib
 from pathlib import Path
 from typing import NamedTuple
 
+from service import signatures
+
 MOST_FAULTS, MOST_CLIENTS = 10, 1_024
 MOST_PATIENCE = 60_000  # milliseconds
 KEYS = "f", "clients", "replicas", "relay"
-OTHERS = "portmap", "patience", "limits"  # which may be missing; the last two are for replicas and relays alone
+OTHERS = "portmap", "patience", "signers", "replica_signers", "limits"  # which may be missing; `patience` and `limits` are for replicas and relays alone
 MEBIBYTE = 1 << 20
 # the least limit of each kind of frame, in bytes, and the most; crates/bfs_deployment has them too
 LIMITS = {
-    "request": 17_400,
+    "request": 28_700,
     "order": 4 * MEBIBYTE,
     "view_change": 64 * MEBIBYTE,
     "new_view": 64 * MEBIBYTE,
@@ -47,13 +49,16 @@ class Address(NamedTuple):
 
 
 class Cluster(NamedTuple):
-    """At most `faults` of the replicas may fail; the relay is where kernels send their calls, and `portmap` where they may ask for its port."""
+    """At most `faults` of the replicas may fail; the relay is where kernels send their calls, and `portmap` where they may ask for its port. Signers are
+    public keys of clients, or of replicas, by their numbers, or none."""
 
     faults: int
     clients: int
     replicas: tuple[Address, ...]
     relay: Address
     portmap: Address | None = None
+    signers: tuple[bytes, ...] = ()
+    replica_signers: tuple[bytes, ...] = ()
 
 
 def address_in(text, key):
@@ -87,6 +92,22 @@ def check_limits(limits):
         number_in(limits, key, LIMITS[key], MOST_LIMIT, "limits.")
 
 
+def signers_in(document, key, who, count):
+    """A public key for each client, or replica, or none; `parse_deployment` reads them likewise."""
+    if key not in document:
+        return ()
+    texts = document[key]
+    if not isinstance(texts, list) or not all(isinstance(text, str) for text in texts):
+        raise Fault(f"{key}: it is no array of texts")
+    for number, text in enumerate(texts):
+        # bytes.fromhex passes over spaces
+        if not re.fullmatch(r"[0-9A-Fa-f]{120}", text) or not signatures.is_public_key(bytes.fromhex(text)):
+            raise Fault(f"{key}: that of {who} {number} is no public key")
+    if len(texts) != count:
+        raise Fault(f"{key}: there are to be {count} of them")
+    return tuple(map(bytes.fromhex, texts))
+
+
 def cluster_in(document):
     """The cluster that a document describes; a fault names its key."""
     check_keys(document, KEYS + OTHERS)
@@ -106,8 +127,10 @@ def cluster_in(document):
         raise Fault("replicas: two of these addresses, or one of them and that of `relay` or `portmap`, are one")
     if "patience" in document:
         number_in(document, "patience", 1, MOST_PATIENCE)
+    signers = signers_in(document, "signers", "client", clients)
+    replica_signers = signers_in(document, "replica_signers", "replica", len(replicas))
     check_limits(document.get("limits", {}))
-    return Cluster(faults, clients, replicas, relay, portmap)
+    return Cluster(faults, clients, replicas, relay, portmap, signers, replica_signers)
 
 
 def read_cluster(folder):
@@ -122,7 +145,13 @@ def read_cluster(folder):
         raise Fault(f"{path}: {fault}") from None
 
 
+def text_of_signers(cluster):
+    lists = {"signers": cluster.signers, "replica_signers": cluster.replica_signers}
+    return "".join("\n".join([f"{key} = [", *(f'    "{each.hex()}",' for each in signers), "]\n"]) for key, signers in lists.items() if signers)
+
+
 def text_of(cluster):
     """The document that describes a cluster."""
     replicas = ", ".join(f'"{address}"' for address in cluster.replicas)
-    return f'f = {cluster.faults}\nclients = {cluster.clients}\nreplicas = [{replicas}]\nrelay = "{cluster.relay}" # NFS version 2 and MOUNT, by TCP and UDP\n'
+    relay = f'relay = "{cluster.relay}" # NFS version 2 and MOUNT, by TCP and UDP'
+    return f"f = {cluster.faults}\nclients = {cluster.clients}\nreplicas = [{replicas}]\n{relay}\n{text_of_signers(cluster)}"

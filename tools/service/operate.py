@@ -111,10 +111,13 @@ def table(rows):
     return ["  ".join(cell.ljust(width) for cell, width in zip(line, [*widths, *[0] * len(line)])).rstrip() for line in cells]
 
 
-def status(cluster):
-    """Prints the table, and whether the relay answers; gives 0 where all do."""
+def status(cluster, is_nearly_spent):
+    """Prints the table, whether the relay answers, and whose signing keys are nearly spent; gives 0 where all answer."""
     *rows, relay = asyncio.run(all_asked(cluster))
     print(*table(rows), f"relay {cluster.relay}: {relay}", sep="\n")
+    for number, row in enumerate(rows):
+        if isinstance(row, dict) and is_nearly_spent(number, int(row.get("asked", 0)), int(row.get("executed", 0))):
+            print(f"replica {number}: its signing key is nearly spent (docs/SERVICE.md)")
     return 0 if all(isinstance(row, dict) for row in rows) and relay.startswith("answers") else 1
 
 

@@ -1,4 +1,7 @@
 mod Blocks
+mod Indexes
 mod Numbered
 mod Passing
+mod SignedTexts
 pub mod Public
+mod Rooted

@@ -1,8 +1,10 @@
 ghost use Rattle.std.specs.Prelude.{◌≡◌, IfOk, map};
-ghost use Rattle.bfs_auth.specs.Authenticators.{passes};
+ghost use Rattle.bfs_auth.specs.Authenticators.{entry_for, is_hash, passes};
+ghost use Rattle.bfs_auth.specs.Keys.{shared_with};
 
 use crate::authenticators::Authenticator;
-use crate::gathering::least_items;
+use crate::checker::Checker;
+use crate::gathering::least_checked;
 use crate::pairwise::Keys;
 use crate::principals::Principal;
 use crate::texts::Text;
@@ -19,9 +21,10 @@ pub struct Claimed {
     pub auth: Authenticator,
 }
 
-/// Whether the receiver's own entry is the keyed hash of the text under the key from the sender to the receiver, whose keys these
-/// are. `false` where they share no key, and where there is no entry for the receiver. It takes no memory, and its time depends on
-/// the bytes that it compares.
+/// Whether the authenticator is the sender's for the text, as the receiver sees it, whose keys these are. Where it knows a public key of the
+/// sender, and of a replica the text is of a place: whether it is a signature of the text by that. Where it knows none: whether the receiver's own entry is the keyed hash of the
+/// text under the key from the sender to the receiver; `false` where they share no key, and where there is no entry for the receiver.
+/// It takes no memory, and its time depends on the bytes that it compares.
 pub fn check(keys: &Keys, sender: Principal, text: &[u8], auth: &Authenticator) -> bool
     ensures { result ≡ passes keys.now sender text.now auth.now }
 {
@@ -31,6 +34,17 @@ pub fn check(keys: &Keys, sender: Principal, text: &[u8], auth: &Authenticator) 
 /// What `check` answers of a text that is fed to it in pieces.
 pub fn check_text<T: Text>(keys: &Keys, sender: Principal, text: &T, auth: &Authenticator) -> bool
     ensures { result ≡ passes keys.now sender (T.text text.now) auth.now }
+{
+    Checker::new().check_text(keys, sender, text, auth)
+}
+
+pub(crate) fn is_hashed<T: Text>(
+    keys: &Keys,
+    sender: Principal,
+    text: &T,
+    auth: &Authenticator,
+) -> bool
+    ensures { result ≡ is_hash (shared_with keys.now sender) (T.text text.now) (entry_for keys.now.me auth.now) }
 {
     let Some(shared) = keys.shared_with(sender) else {
         return false;
@@ -64,11 +78,12 @@ fn checked(
 {
     items
         .par_iter()
-        .with_min_len(least_items(items, |item| item.text.len()))
-        .map(
-            |item: &Claimed| -> bool
+        .with_min_len(least_checked(items, |item| item.text.len()))
+        .map_init(
+            Checker::new,
+            |checker: &mut Checker, item: &Claimed| -> bool
                 ensures { result ≡ passes keys.entry.now item.now.sender item.now.text.items item.now.auth }
-            { check(keys, item.sender, item.text.as_slice(), &item.auth) },
+            { checker.check_text(keys, item.sender, &item.text.as_slice(), &item.auth) },
         )
         .collect(rt, alloc)
 }

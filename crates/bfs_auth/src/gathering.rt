@@ -12,6 +12,9 @@ const LEAST_BYTES: usize = 32_768;
 // What is hashed of a text beside its own bytes: the inner hash, and padding.
 const BYTES_BESIDE: usize = 128;
 
+// How many items a thread checks at least, where one alone pays for it.
+const LEAST_CHECKED: usize = 16;
+
 /// How many of these items a thread is to hash at least, so that they pay for its start. An item has as many bytes to hash as `length` says.
 pub fn least_items<T, F: Fn(&T) -> usize>(items: &[T], length: F) -> usize
     requires { F.IsAlwaysCallable length }
@@ -25,6 +28,17 @@ pub fn least_items<T, F: Fn(&T) -> usize>(items: &[T], length: F) -> usize
         count => bytes / count,
     };
     LEAST_BYTES / mean.saturating_add(BYTES_BESIDE) + 1
+}
+
+/// How many of these items a thread is to check at least: so many as `least_items` says, but several where one alone pays for a thread, as a signature does,
+/// since of those that were signed at once a thread verifies the root's signature once.
+pub fn least_checked<T, F: Fn(&T) -> usize>(items: &[T], length: F) -> usize
+    requires { F.IsAlwaysCallable length }
+{
+    match least_items(items, length) {
+        1 => LEAST_CHECKED,
+        least => least,
+    }
 }
 
 /// What threads gave, in its order, without those that gave nothing. `Memory` if it ran out at one of them, or runs out here.

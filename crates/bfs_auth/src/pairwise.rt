@@ -1,15 +1,19 @@
-ghost use Rattle.std.specs.Prelude.{◌≡◌, ◌+◌, ◌<◌, ◌≤◌, ◌^◌, ◌++◌, ℕ, map, length, slice_get, Some, IfOk, IfSome, IsNone};
+ghost use Rattle.std.specs.Prelude.{◌≡◌, ◌+◌, ◌<◌, ◌≤◌, ◌^◌, ◌++◌, ℕ, map, length, slice_get, vec_len, Some, IfOk, IfSome, IsNone};
 ghost use Rattle.std.specs.List.{range_with_len};
 ghost use Rattle.std.specs.Option.{option_map};
 ghost use Rattle.bfs_model.specs.Bytes.Items.{word};
 ghost use Rattle.bfs_model.specs.Server.Limits.{most_faults, most_replicas};
 ghost use Rattle.bfs_auth.specs.Principals.{first_client, number_of};
-ghost use Rattle.bfs_auth.specs.Keys.{clients_known, key_from_to, keys_from, keys_of, shared_keys, shared_of, shared_with};
+ghost use Rattle.bfs_auth.specs.Keys.{clients_known, key_from_to, keys_from, keys_of, public_key_of, shared_keys, shared_of, shared_with};
 ghost use Rattle.bfs_auth.specs.Replicas.{AreOfReplica};
+ghost use Rattle.lms.specs.Levels.{hss_public_key_bytes, most_levels};
 
 use crate::keyed_hash::{HmacKey, hmac};
 use crate::principals::Principal;
+use crate::replica_signer::ReplicaSigner;
+use crate::texts::Text;
 use bfs_types::Memory;
+use lms::{HssPublicKey, PrivateKey, TreeTypes};
 use std::alloc::{AllocError, Global};
 use std::marker::Model;
 
@@ -30,22 +34,27 @@ pub struct SharedKeys {
 }
 
 /// The keys that one principal holds: a replica shares keys with all replicas, itself among them, and with all clients; a client
-/// shares keys with all replicas alone.
+/// shares keys with all replicas alone. Whoever knows public keys of clients takes nothing of those clients that isn't signed, and likewise nothing of replicas that is of a
+/// place.
 #[derive(Drop)]
 pub struct Keys {
     me: Principal,
     replicas: Vec<SharedKeys>,
     clients: Vec<SharedKeys>,
+    signers: Vec<HssPublicKey>,
+    replica_signers: Vec<HssPublicKey>,
+    signer: Option<ReplicaSigner>,
 }
 
 impl Model for Keys {
-    ghost use Rattle.std.specs.Prelude.{◌≤◌, length};
+    ghost use Rattle.std.specs.Prelude.{◌≤◌, length, map};
     ghost use Rattle.bfs_model.specs.Server.Limits.{most_replicas};
+    ghost use Rattle.lms.specs.Levels.{hss_public_key_bytes};
     ghost use Rattle.bfs_auth.specs.Keys as model;
 
     ghost Value = { model.Keys };
 
-    ghost view = { λ keys. record { me = keys.me; replicas = keys.replicas.items; clients = keys.clients.items } };
+    ghost view = { λ keys. record { me = keys.me; replicas = keys.replicas.items; clients = keys.clients.items; signers = map hss_public_key_bytes keys.signers.items; replica_signers = map hss_public_key_bytes keys.replica_signers.items; signer = keys.signer } };
 
     ghost invariant = { λ keys. length keys.replicas.items ≤ most_replicas };
 }
@@ -75,6 +84,9 @@ impl Keys {
             me,
             replicas: shared_with_replicas(alloc, secret, me, replicas)?,
             clients: shared_with_clients(alloc, secret, me, clients)?,
+            signers: Vec::new(alloc),
+            replica_signers: Vec::new(alloc),
+            signer: None,
         })
     }
 
@@ -94,6 +106,45 @@ impl Keys {
             me,
             replicas: shared_of_each(alloc, replicas)?,
             clients: shared_of_each(alloc, clients)?,
+            signers: Vec::new(alloc),
+            replica_signers: Vec::new(alloc),
+            signer: None,
+        })
+    }
+
+    /// The same keys, with the public keys of the clients who sign their requests, by their numbers: of those with none nothing is known but
+    /// what they share.
+    pub fn with_signers(self, signers: Vec<HssPublicKey>) -> Keys
+        ensures { result ≡ record self { signers = map hss_public_key_bytes signers.items } }
+    {
+        Keys { signers, ..self }
+    }
+
+    /// The same keys, with the public keys of the replicas, by their numbers. Of a replica with one nothing is taken that is of a place and isn't signed.
+    pub fn with_replica_signers(self, replica_signers: Vec<HssPublicKey>) -> Keys
+        ensures { result ≡ record self { replica_signers = map hss_public_key_bytes replica_signers.items } }
+    {
+        Keys {
+            replica_signers,
+            ..self
+        }
+    }
+
+    /// The same keys, with a key by which their owner signs what is of a place: the private key of its first tree, and the types of the trees of the levels below.
+    /// It makes trees for it, which takes long (`lms::Signer::new`). No other process may sign by that key. `Memory` if memory runs out.
+    pub fn with_signer(
+        self,
+        alloc: Global,
+        first: PrivateKey,
+        below: Vec<TreeTypes>,
+    ) -> Result<Keys, Memory>
+        requires { vec_len below < most_levels }
+        ensures { IfOk result (λ keys. keys ≡ record self { signer = Some (record { first = first; below = below.items }) }) }
+    {
+        let signer = ReplicaSigner::new(alloc, first, below)?;
+        Ok(Keys {
+            signer: Some(signer),
+            ..self
         })
     }
 
@@ -151,6 +202,30 @@ impl Keys {
         ensures { slice_get self.now.clients client ≡ Some result.now }
     {
         &self.clients[client as usize]
+    }
+
+    // what it signs with itself
+    pub(crate) fn signer(&self) -> Option<&ReplicaSigner>
+        ensures { option_map (λ signer. signer.now) result ≡ self.now.signer }
+    {
+        self.signer.as_ref()
+    }
+
+    /// The public key by which a sender has signed the text, if it is one that a sender with a public key signs.
+    pub(crate) fn public_key_of<T: Text>(
+        &self,
+        sender: Principal,
+        text: &T,
+    ) -> Option<&HssPublicKey>
+        ensures { option_map (λ key. hss_public_key_bytes key.now) result ≡ public_key_of self.now sender (T.text text.now) }
+    {
+        match sender {
+            Principal::Replica(number) => match text.place() {
+                Some(_) => self.replica_signers.get(number as usize),
+                None => None,
+            },
+            Principal::Client(number) => self.signers.get(number as usize),
+        }
     }
 
     // none where there are none

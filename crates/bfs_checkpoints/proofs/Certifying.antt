@@ -7,6 +7,7 @@ use Rattle.std.proofs.lemmas.List.Elements.{All-weaker, filter_map-append, filte
 use Rattle.std.proofs.lemmas.List.{take_more}
 use Rattle.std.proofs.lemmas.Map.Views.{any-filter_same}
 use Rattle.std.proofs.lemmas.Slice.Eq.{bytes_eq-Decides}
+use Rattle.bfs_auth.specs.declared.authenticators.Authenticator.{Authenticator}
 use Rattle.bfs_votes.specs.Votes.{Header, SlotsDiffer, is_slot, is_stable, replicas, says, told}
 use Rattle.bfs_log.specs.Certificates.{IsCheckpointOf, as_checkpoints}
 use Rattle.bfs_log.specs.Headers.{header}
@@ -24,7 +25,7 @@ use Rattle.bfs_votes.proofs.Public.{same_count}
 abbrev tells : (number : ℕ) → (digest : List ℕ) → Signed OrderMessage → Bool
 tells number digest m = ((header m).tag == 5) && (((header m).number == number) && bytes_eq (header m).digest digest)
 
-tells_as : (number : ℕ) (digest : List ℕ) (x : OrderMessage) (auth : List (List ℕ)) (found : List (Signed model.Checkpoint)) (kept : Log) → as_checkpoints found ≡ kept
+tells_as : (number : ℕ) (digest : List ℕ) (x : OrderMessage) (auth : Authenticator) (found : List (Signed model.Checkpoint)) (kept : Log) → as_checkpoints found ≡ kept
     → as_checkpoints (cons_option (told_as number digest x auth) found) ≡ cond (tells number digest (record { message = x; auth = auth })) (record { message = x; auth = auth } ∷ kept) kept
 tells_as number digest (PrePrepare p) auth found kept e = e
 tells_as number digest (Prepare vote) auth found kept e = e

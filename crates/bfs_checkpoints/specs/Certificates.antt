@@ -1,6 +1,7 @@
 -- The CHECKPOINTs of a log that tell of a checkpoint (OSDI 1999 section 4.3).
 use Rattle.std.specs.Prelude.{ℕ, ◌==◌, ◌&&◌, List, Option, Some, None, bytes_eq, if◌then◌else◌}
 use Rattle.std.specs.List.{filter_map}
+use Rattle.bfs_auth.specs.declared.authenticators.Authenticator.{Authenticator}
 use Rattle.bfs_log.specs.Certificates.{StableCheckpoint}
 use Rattle.bfs_log.specs.Logs.{Log}
 use Rattle.bfs_messages.specs.Messages as model
@@ -9,7 +10,7 @@ use Rattle.bfs_messages.specs.declared.order_messages.OrderMessage.{OrderMessage
 use Rattle.bfs_messages.specs.declared.order_messages.OrderMessage.TheVariants.{PrePrepare, Prepare, Commit, Checkpoint}
 
 -- a message, if it is a CHECKPOINT of that number and digest
-abbrev pub told_as : (number : ℕ) → (digest : List ℕ) → OrderMessage → (auth : List (List ℕ)) → Option (Signed model.Checkpoint)
+abbrev pub told_as : (number : ℕ) → (digest : List ℕ) → OrderMessage → (auth : Authenticator) → Option (Signed model.Checkpoint)
 told_as number digest (Checkpoint c) auth = if (c.number == number) && bytes_eq c.digest digest then Some (record { message = c; auth = auth }) else None
 told_as number digest (PrePrepare proposal) auth = None
 told_as number digest (Prepare vote) auth = None

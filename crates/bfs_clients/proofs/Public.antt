@@ -7,6 +7,7 @@ use Rattle.bfs_clients.specs.Clients.{Clients}
 use Rattle.bfs_clients.specs.Tallies.{Tally, no_replies, tallied_by, tally_of}
 use Rattle.bfs_clients.specs.Inside.Places.{name_of}
 use Rattle.bfs_clients.proofs.Places.{same_name_of}
+pub use Rattle.bfs_clients.proofs.Replies.{sender_below}
 
 still_named : (clients : Clients) (messages : List (Signed Message)) (tally : Tally) → name_of (fold (tallied_by clients) tally messages) ≡ name_of tally
 still_named clients [] tally = refl

@@ -102,6 +102,7 @@ impl Tally {
     }
 
     /// What `add` does, where `Clients::are_signed` has told whether the message passes.
+    #[tactic(auto, using(crate::proofs::Replies::sender_below))]
     pub fn add_checked(
         &mut self,
         clients: &Clients,

@@ -47,6 +47,10 @@ quorum replicas = 2 * (replicas / 3) + 1
 abbrev pub are_in : World → (view : ℕ) → Bool
 are_in world view = nat_le (quorum (length world.replicas)) (count_by (is_in view) world.replicas)
 
--- the view that 2f + 1 replicas are in: there is one at most
+-- the first replica whose view 2f + 1 are in
+abbrev pub first_among_enough : World → Option Replica
+first_among_enough world = find (λ replica. are_in world replica.node.order.view) world.replicas
+
+-- that view: there is one at most
 abbrev pub common_view : World → Option ℕ
-common_view world = option_map (λ replica. replica.node.order.view) (find (λ replica. are_in world replica.node.order.view) world.replicas)
+common_view world = option_map (λ replica. replica.node.order.view) (first_among_enough world)

@@ -1,5 +1,5 @@
-ghost use Rattle.std.specs.Prelude.{◌≡◌, None, Some, IfOk, IsErr, OnErr};
-ghost use Rattle.bfs_cluster.specs.Standings.{are_in, common_view, is_in, most_executed, quorum, standing_at, standings};
+ghost use Rattle.std.specs.Prelude.{◌≡◌, None, Some, IfOk, IsErr, OnErr, option_copied};
+ghost use Rattle.bfs_cluster.specs.Standings.{are_in, common_view, first_among_enough, is_in, most_executed, quorum, standing_at, standings};
 ghost use Rattle.bfs_cluster.specs.World.{SomeHeard};
 
 use crate::cluster::Cluster;
@@ -38,11 +38,18 @@ impl Cluster {
     pub fn common_view(&self) -> Option<u64>
         ensures { result ≡ common_view self.now }
     {
-        let found = self
-            .replicas
+        match self.first_among_enough() {
+            Some(found) => Some(found.node.view()),
+            None => None,
+        }
+    }
+
+    fn first_among_enough(&self) -> Option<&Replica>
+        ensures { option_copied result ≡ first_among_enough self.now }
+    {
+        self.replicas
             .iter()
-            .find(|replica| self.are_in(replica.node.view()))?;
-        Some(found.node.view())
+            .find(|replica| self.are_in(replica.node.view()))
     }
 
     fn are_in(&self, view: u64) -> bool

@@ -5,7 +5,8 @@ use Rattle.bfs_model.proofs.Public.{IsExact, as_exact, list_exact, then_exact, w
 use Rattle.bfs_messages.specs.Changes.{behind_proposal_text, prepared_batch_text, new_view_text, proposal_text, view_change_text}
 use Rattle.bfs_messages.specs.Limits.{FitsPreparedBatch, FitsNewView, FitsPrePrepare, FitsSigned, FitsViewChange}
 use Rattle.bfs_codec.specs.ChangeReading.{behind_proposal_from, prepared_batch_from, new_view_from, proposal_from, view_change_from}
-use Rattle.bfs_codec.proofs.PartsExact.{auth_exact, checkpoint_exact, number_exact, signed_as_exact, tagged_as_exact, vote_exact}
+use Rattle.bfs_codec.proofs.AuthExact.{auth_exact}
+use Rattle.bfs_codec.proofs.PartsExact.{checkpoint_exact, number_exact, signed_as_exact, tagged_as_exact, vote_exact}
 use Rattle.bfs_codec.proofs.BatchesExact.{IsBatchOf, batch_of_exact}
 
 pub behind_proposal_exact : IsExact behind_proposal_text (FitsSigned FitsPrePrepare) behind_proposal_from

@@ -12,6 +12,7 @@ use Rattle.bfs_messages.specs.declared.message.Message.TheVariants.{Request, Ord
 use Rattle.bfs_messages.specs.OrderMessages.{order_tag}
 use Rattle.bfs_messages.specs.declared.order_messages.OrderMessage.{OrderMessage}
 use Rattle.bfs_messages.specs.declared.order_messages.OrderMessage.TheVariants.{PrePrepare, Prepare, Commit, Checkpoint}
+use Rattle.bfs_auth.specs.declared.authenticators.Authenticator.{Authenticator}
 use Rattle.bfs_messages.specs.Batches.{auth_text, behind_text}
 use Rattle.bfs_messages.specs.Spelling.{tag_of, fields_text, attached_text, signed_text}
 use Rattle.bfs_messages.specs.Limits.{FitsSigned, FitsRequest, FitsPrePrepare, FitsVote, FitsCheckpoint, FitsViewChange, FitsNewView, FitsReply}
@@ -36,7 +37,7 @@ record IsPlain {A : Type 0} (text : A → List ℕ) (Fits : A → Type 0) (k : �
   fits : (a : A) → Fits a → FitsMessage (to a)
   only : (m : Message) → tag_of m ≡ k → FitsMessage m → (a : A) × (m ≡ to a) × Fits a
 
-with_auth : {m n : Message} (auth : List (List ℕ)) → m ≡ n → ◌≡◌ {A = Signed Message} (record { message = m; auth = auth }) (record { message = n; auth = auth })
+with_auth : {m n : Message} (auth : Authenticator) → m ≡ n → ◌≡◌ {A = Signed Message} (record { message = m; auth = auth }) (record { message = n; auth = auth })
 with_auth {m} {n} auth e = subst (λ (x : Message). ◌≡◌ {A = Signed Message} (record { message = m; auth = auth }) (record { message = x; auth = auth })) e refl
 
 plain_exact : {A : Type 0} {text : A → List ℕ} {Fits : A → Type 0} {from : List ℕ → Reading A} {k : ℕ} {to : A → Message} → IsPlain text Fits k to → IsExact text Fits from

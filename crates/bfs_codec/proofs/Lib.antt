@@ -1,3 +1,4 @@
+pub mod AuthExact
 pub mod PartsExact
 pub mod BatchesExact
 pub mod ChangesExact

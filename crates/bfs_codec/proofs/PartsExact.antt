@@ -1,19 +1,15 @@
 -- Each part of a message is read just where it was written.
 use Rattle.std.proofs.Common.{◌≡◌, ℕ, ◌^◌, ◌<◌, true, eqb, leb, ltb, List, ◌++◌, refl, sym, ap, arith}
 use Rattle.std.proofs.lemmas.Bool.{ltb-true, lt-ltb, leb-true, le-leb, eqb-true}
-use Rattle.std.proofs.lemmas.List.Elements.{All-from_recursion, recursion_from_All}
 use Rattle.bfs_model.specs.Bytes.Formats.{Reading}
 use Rattle.bfs_model.specs.Bytes.Items.{word, hyper, fixed}
 use Rattle.bfs_model.specs.Server.Limits.{most_number, most_replicas, most_reply_bytes, most_request_bytes}
 use Rattle.bfs_model.specs.Server.Stored.{IsTime}
-use Rattle.bfs_model.proofs.Public.{IsExact, as_exact, fits_exact, fixed_exact, hyper_exact, list_exact, short_exact, then_exact, where_exact, word_exact}
-use Rattle.bfs_auth.specs.Authenticators.{IsAuthenticator}
-use Rattle.bfs_messages.specs.Batches.{auth_text, behind_text, checkpoint_text, reply_text, request_text, signed_as, time_text, vote_text}
+use Rattle.bfs_model.proofs.Public.{IsExact, as_exact, fits_exact, hyper_exact, short_exact, then_exact, where_exact, word_exact}
+use Rattle.bfs_messages.specs.Batches.{behind_text, checkpoint_text, reply_text, request_text, signed_as, time_text, vote_text}
 use Rattle.bfs_messages.specs.Limits.{IsDigest, IsNumber, FitsCheckpoint, FitsReply, FitsRequest, FitsSigned, FitsVote}
-use Rattle.bfs_codec.specs.Parts.{auth_from, behind_from, checkpoint_from, digest_from, number_from, reply_from, request_from, signed_as_from, tagged_from, time_from, vote_from}
-
-pub digest_exact : IsExact fixed IsDigest digest_from
-digest_exact = fixed_exact 32
+use Rattle.bfs_codec.proofs.AuthExact.{auth_exact, digest_exact}
+use Rattle.bfs_codec.specs.Parts.{behind_from, checkpoint_from, digest_from, number_from, reply_from, request_from, signed_as_from, tagged_from, time_from, vote_from}
 
 pub number_exact : IsExact hyper IsNumber number_from
 number_exact = fits_exact (λ n h. leb-true n most_number h.1) (λ n h. (omega (arith, h), le-leb n most_number h)) (where_exact (λ n. leb n most_number) hyper_exact)
@@ -24,11 +20,6 @@ time_exact =
     as_exact _ (then_exact word_exact (where_exact (λ u. ltb u 1000000) word_exact))
     (λ p h. (refl, record { seconds = h.0; useconds = ltb-true p.1 1000000 h.1.1 }))
     (λ t h. ((t.seconds, t.useconds), refl, (h.seconds, (omega (arith, h.useconds), lt-ltb t.useconds 1000000 h.useconds))))
-
-pub auth_exact : IsExact auth_text IsAuthenticator auth_from
-auth_exact = fits_exact
-    (λ auth h. (h.0, All-from_recursion IsDigest auth h.1)) (λ auth h. (h.0, recursion_from_All IsDigest auth h.1))
-    (list_exact most_replicas (omega arith) digest_exact)
 
 pub request_exact : IsExact request_text FitsRequest request_from
 unfolding request_from

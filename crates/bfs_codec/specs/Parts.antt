@@ -2,12 +2,15 @@
 use Rattle.std.specs.Prelude.{ℕ, ◌==◌, List, Some, None, bytes_eq, nat_lt, nat_le, not, if◌then◌else◌}
 use Rattle.sha2.specs.Sha256.{sha256}
 use Rattle.bfs_model.specs.Bytes.Call.{◌>>=◌}
-use Rattle.bfs_model.specs.Bytes.Formats.{Reading, word_from, hyper_from, fixed_from, bytes_from, as_from, where_from, then_from, list_from}
+use Rattle.bfs_model.specs.Bytes.Formats.{Reading, word_from, hyper_from, fixed_from, bytes_from, as_from, where_from, then_from, items_from, list_from}
 use Rattle.bfs_model.specs.Server.Limits.{most_number, most_replicas, most_reply_bytes, most_request_bytes, most_requests}
 use Rattle.bfs_model.specs.Server.Tree.{Time}
+use Rattle.bfs_auth.specs.Signatures.{most_signature_bytes}
+use Rattle.bfs_auth.specs.declared.authenticators.Authenticator.{Authenticator}
+use Rattle.bfs_auth.specs.declared.authenticators.Authenticator.TheVariants.{Hashes, Signature}
 use Rattle.bfs_messages.specs.Messages as model
 use Rattle.bfs_messages.specs.Messages.{Requests, Batch, Vote}
-use Rattle.bfs_messages.specs.Batches.{batch_text}
+use Rattle.bfs_messages.specs.Batches.{batch_text, signature_mark}
 use Rattle.bfs_messages.specs.declared.signed.Signed.{Signed}
 use Rattle.bfs_votes.specs.Tags.{request_tag}
 
@@ -26,8 +29,17 @@ time_from bytes =
 abbrev pub count_from : (most : ℕ) → List ℕ → Reading ℕ
 count_from most bytes = where_from (λ count. not (nat_lt most count)) word_from bytes
 
-abbrev pub auth_from : List ℕ → Reading (List (List ℕ))
-auth_from bytes = list_from most_replicas digest_from bytes
+-- what stands behind the first word of an authenticator: a signature, or so many keyed hashes
+unfoldable pub signature_from : List ℕ → Reading Authenticator
+signature_from bytes = as_from Signature (bytes_from most_signature_bytes) bytes
+
+unfoldable pub hashes_from : (count : ℕ) → List ℕ → Reading Authenticator
+hashes_from count bytes = if nat_lt most_replicas count then None else as_from Hashes (items_from digest_from count) bytes
+
+unfoldable pub auth_from : List ℕ → Reading Authenticator
+auth_from bytes = do
+  count ← word_from bytes
+  if count.0 == signature_mark then signature_from count.1 else hashes_from count.0 count.1
 
 -- What stands behind the tags ----------------------------------------------------------------------------------------
 
@@ -49,7 +61,7 @@ reply_from bytes =
     as_from (λ p. record { sender = p.0.0.0.0; view = p.0.0.0.1; client = p.0.0.1; timestamp = p.0.1; result = p.1 })
     (then_from (then_from (then_from (then_from word_from number_from) word_from) hyper_from) (bytes_from most_reply_bytes)) bytes
 
--- with its keyed hashes
+-- with its authenticator
 abbrev pub behind_from : {A : Type 0} → (List ℕ → Reading A) → List ℕ → Reading (Signed A)
 behind_from from bytes = as_from (λ p. record { message = p.0; auth = p.1 }) (then_from from auth_from) bytes
 

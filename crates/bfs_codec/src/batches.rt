@@ -64,7 +64,7 @@ impl Read for Signed<PrePrepare> {
     }
 }
 
-/// Reads what stands behind the tag of a PRE-PREPARE, with its keyed hashes and its batch.
+/// Reads what stands behind the tag of a PRE-PREPARE, with its authenticator and its batch.
 #[tactic(auto, unfolding(crate::specs::ChangeReading::behind_proposal_from))]
 pub(crate) fn read_behind_proposal(
     reader: &mut MessageReader<'_>,
@@ -80,7 +80,7 @@ pub(crate) fn read_behind_proposal(
     })
 }
 
-/// Passes over what stands behind the tag of a PRE-PREPARE, with its keyed hashes and its batch.
+/// Passes over what stands behind the tag of a PRE-PREPARE, with its authenticator and its batch.
 #[tactic(auto, unfolding(crate::specs::ChangeReading::behind_proposal_from))]
 pub(crate) fn skip_behind_proposal(reader: &mut MessageReader<'_>) -> Result<(), Malformed>
     ensures { Passes result (behind_proposal_from reader.old) reader.new }

@@ -3,12 +3,12 @@ ghost use Rattle.std.specs.Prelude.{◌≡◌, ◌≤◌, ℕ, List};
 ghost use Rattle.bfs_model.specs.Bytes.Formats.{Reading, items_from};
 ghost use Rattle.bfs_model.specs.Server.Limits.{most_replicas};
 ghost use Rattle.bfs_codec.specs.Codes.{Passes, Reads};
-ghost use Rattle.bfs_codec.specs.Parts.{auth_from, behind_from, digest_from, signed_as_from};
+ghost use Rattle.bfs_codec.specs.Parts.{auth_from, behind_from, digest_from, hashes_from, signature_from, signed_as_from};
 
 use crate::error::{DecodeError, Malformed};
 use crate::reader::MessageReader;
-use bfs_auth::Authenticator;
-use bfs_messages::{Kind, Signed};
+use bfs_auth::{Authenticator, KeyedHashes, MOST_SIGNATURE_BYTES};
+use bfs_messages::{Kind, SIGNATURE_MARK, Signed};
 use bfs_types::MOST_REPLICAS;
 
 /// A part of a message, as it is read.
@@ -41,26 +41,68 @@ impl Read for [u8; 32] {
 impl Read for Authenticator {
     ghost from = { auth_from };
 
-    #[tactic(auto, unfolding(bfs_model::specs::Bytes::Formats::list_from))]
+    #[tactic(auto, unfolding(crate::specs::Parts::auth_from))]
     fn read(reader: &mut MessageReader<'_>) -> Result<Authenticator, DecodeError> {
-        let count = reader.count(MOST_REPLICAS as u32)?;
-        read_entries(count, reader)
+        match reader.u32()? {
+            SIGNATURE_MARK => read_signature(reader),
+            count => read_hashes(count, reader),
+        }
     }
 
+    #[tactic(auto, unfolding(crate::specs::Parts::auth_from))]
     fn skip(reader: &mut MessageReader<'_>) -> Result<(), Malformed> {
-        reader.skip_list::<[u8; 32]>(MOST_REPLICAS as u32)
+        match reader.u32()? {
+            SIGNATURE_MARK => skip_signature(reader),
+            count => skip_hashes(count, reader),
+        }
     }
 }
 
-fn read_entries(count: u32, reader: &mut MessageReader<'_>) -> Result<Authenticator, DecodeError>
-    requires { count ≤ most_replicas }
-    ensures { Reads (λ auth. auth) result (items_from digest_from count reader.old) reader.new }
+#[tactic(auto, unfolding(crate::specs::Parts::signature_from))]
+fn read_signature(reader: &mut MessageReader<'_>) -> Result<Authenticator, DecodeError>
+    ensures { Reads (λ auth. auth) result (signature_from reader.old) reader.new }
 {
-    let mut auth = Authenticator::new(reader.alloc());
-    for _entry in 0..count {
-        auth.push(reader.digest()?)?;
+    let bytes = reader.bytes(MOST_SIGNATURE_BYTES as u32)?;
+    Ok(Authenticator::of_signature(reader.alloc(), bytes)?)
+}
+
+#[tactic(auto, unfolding(crate::specs::Parts::signature_from))]
+fn skip_signature(reader: &mut MessageReader<'_>) -> Result<(), Malformed>
+    ensures { Passes result (signature_from reader.old) reader.new }
+{
+    reader.bytes(MOST_SIGNATURE_BYTES as u32)?;
+    Ok(())
+}
+
+#[tactic(auto, unfolding(crate::specs::Parts::hashes_from))]
+fn read_hashes(count: u32, reader: &mut MessageReader<'_>) -> Result<Authenticator, DecodeError>
+    ensures { Reads (λ auth. auth) result (hashes_from count reader.old) reader.new }
+{
+    if count > MOST_REPLICAS as u32 {
+        return Err(DecodeError::Malformed);
     }
-    Ok(auth)
+    Ok(Authenticator::Hashes(read_entries(count, reader)?))
+}
+
+#[tactic(auto, unfolding(crate::specs::Parts::hashes_from))]
+fn skip_hashes(count: u32, reader: &mut MessageReader<'_>) -> Result<(), Malformed>
+    ensures { Passes result (hashes_from count reader.old) reader.new }
+{
+    if count > MOST_REPLICAS as u32 {
+        return Err(Malformed);
+    }
+    reader.skip_parts::<[u8; 32]>(count)
+}
+
+fn read_entries(count: u32, reader: &mut MessageReader<'_>) -> Result<KeyedHashes, DecodeError>
+    requires { count ≤ most_replicas }
+    ensures { Reads (λ hashes. hashes) result (items_from digest_from count reader.old) reader.new }
+{
+    let mut hashes = KeyedHashes::new(reader.alloc());
+    for _entry in 0..count {
+        hashes.push(reader.digest()?)?;
+    }
+    Ok(hashes)
 }
 
 impl<T: Kind + Read> Read for Signed<T> {
@@ -77,7 +119,7 @@ impl<T: Kind + Read> Read for Signed<T> {
     }
 }
 
-/// Reads what stands behind a message's tag, with its keyed hashes.
+/// Reads what stands behind a message's tag, with its authenticator.
 pub(crate) fn read_behind<T: Read>(reader: &mut MessageReader<'_>) -> Result<Signed<T>, DecodeError>
     ensures { Reads (λ signed. signed) result (behind_from T.from reader.old) reader.new }
 {
@@ -86,7 +128,7 @@ pub(crate) fn read_behind<T: Read>(reader: &mut MessageReader<'_>) -> Result<Sig
     Ok(Signed { message, auth })
 }
 
-/// Passes over what stands behind a message's tag, with its keyed hashes.
+/// Passes over what stands behind a message's tag, with its authenticator.
 pub(crate) fn skip_behind<T: Read>(reader: &mut MessageReader<'_>) -> Result<(), Malformed>
     ensures { Passes result (behind_from T.from reader.old) reader.new }
 {

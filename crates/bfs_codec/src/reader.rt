@@ -252,7 +252,8 @@ impl<'a> MessageReader<'a> {
         self.skip_parts::<T>(count)
     }
 
-    fn skip_parts<T: Read>(&mut self, count: u32) -> Result<(), Malformed>
+    /// Passes over so many parts.
+    pub(crate) fn skip_parts<T: Read>(&mut self, count: u32) -> Result<(), Malformed>
         ensures { Passes result (items_from T.from count self.old) self.new }
     {
         for _part in 0..count {

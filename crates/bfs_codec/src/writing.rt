@@ -6,7 +6,7 @@ use bfs_messages::{Message, Signed, put_message};
 use bfs_types::Memory;
 use std::alloc::Global;
 
-/// The bytes of a message and its keyed hashes. `Memory` if memory runs out.
+/// The bytes of a message and its authenticator. `Memory` if memory runs out.
 pub fn encode(alloc: Global, signed: &Signed<Message>) -> Result<Vec<u8>, Memory>
     ensures text { IfOk result (λ bytes. bytes.items ≡ signed_text signed.now) }
     ensures again { IfOk result (λ bytes. message_of bytes.items ≡ Some signed.now) }

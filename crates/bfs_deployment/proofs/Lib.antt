@@ -1,3 +1,4 @@
 -- Lemmas of bfs_deployment.
 pub mod Documents
+pub mod Given
 pub mod Rows

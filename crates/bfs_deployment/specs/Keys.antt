@@ -5,7 +5,7 @@ use Rattle.bfs_frames.specs.Kinds.{all_kinds}
 use Rattle.bfs_frames.specs.declared.kind.Kind.{Kind}
 use Rattle.bfs_frames.specs.declared.kind.Kind.TheVariants as kind
 use Rattle.bfs_deployment.specs.declared.key.Key.{Key}
-use Rattle.bfs_deployment.specs.declared.key.Key.TheVariants.{F, Clients, Replicas, Relay, Portmap, Patience, Limits, Limit}
+use Rattle.bfs_deployment.specs.declared.key.Key.TheVariants.{F, Clients, Replicas, Relay, Portmap, Patience, Signers, ReplicaSigners, Limits, Limit}
 
 abbrev pub limit_name : Kind → List ℕ
 limit_name kind.Request = codes "request"
@@ -30,12 +30,14 @@ name_of Replicas = codes "replicas"
 name_of Relay = codes "relay"
 name_of Portmap = codes "portmap"
 name_of Patience = codes "patience"
+name_of Signers = codes "signers"
+name_of ReplicaSigners = codes "replica_signers"
 name_of Limits = codes "limits"
 name_of (Limit frames) = limit_name frames
 
 -- those of the document itself
 abbrev pub document_keys : List Key
-document_keys = F ∷ Clients ∷ Replicas ∷ Relay ∷ Portmap ∷ Patience ∷ Limits ∷ []
+document_keys = F ∷ Clients ∷ Replicas ∷ Relay ∷ Portmap ∷ Patience ∷ Signers ∷ ReplicaSigners ∷ Limits ∷ []
 
 -- those of its table of limits
 abbrev pub limit_keys : List Key

@@ -1,11 +1,12 @@
 ghost use Rattle.std.specs.Prelude.{◌≡◌, ◌≤◌, length, option_copied};
 ghost use Rattle.bfs_model.specs.Server.Limits.{most_clients, most_faults};
 ghost use Rattle.bfs_settings.specs.Settings.{replicas_for};
-ghost use Rattle.bfs_deployment.specs.Deployment.{most_patience};
+ghost use Rattle.bfs_deployment.specs.Deployment.{OneEach, most_patience};
 ghost use Rattle.bfs_deployment.specs.Limits.{AreRoomy};
 
 use crate::text::Text;
 use bfs_frames::Limits;
+use lms::HssPublicKey;
 use std::marker::Model;
 
 /// How many milliseconds a replica waits for a request where a document doesn't say.
@@ -23,6 +24,8 @@ pub struct Deployment {
     pub(crate) relay: Text,
     pub(crate) portmap: Option<Text>,
     pub(crate) patience: u32,
+    pub(crate) signers: Vec<HssPublicKey>,
+    pub(crate) replica_signers: Vec<HssPublicKey>,
     pub(crate) limits: Limits,
 }
 
@@ -39,10 +42,12 @@ impl Model for Deployment {
       relay = held.relay;
       portmap = held.portmap;
       patience = held.patience;
+      signers = held.signers.items;
+      replica_signers = held.replica_signers.items;
       limits = held.limits;
     } };
 
-    ghost invariant = { λ held. model.IsDeployment held.f held.clients (length held.replicas.items) held.patience held.limits };
+    ghost invariant = { λ held. model.IsDeployment held.f held.clients (length held.replicas.items) held.patience (length held.signers.items) (length held.replica_signers.items) held.limits };
 }
 
 impl Deployment {
@@ -95,6 +100,22 @@ impl Deployment {
         ensures most { result ≤ most_patience }
     {
         self.patience
+    }
+
+    /// The public keys of clients by their numbers, or none: then no client signs its requests.
+    pub fn signers(&self) -> &[HssPublicKey]
+        ensures value { result.now ≡ self.now.signers }
+        ensures count { OneEach self.now.clients (length result.now) }
+    {
+        self.signers.as_slice()
+    }
+
+    /// The public keys of replicas by their numbers, or none: then no replica signs.
+    pub fn replica_signers(&self) -> &[HssPublicKey]
+        ensures value { result.now ≡ self.now.replica_signers }
+        ensures count { OneEach (replicas_for self.now.f) (length result.now) }
+    {
+        self.replica_signers.as_slice()
     }
 
     /// The most bytes of a frame of each kind: no fewer than by default.

@@ -15,6 +15,7 @@ use crate::deployment::{DEFAULT_PATIENCE, Deployment, MOST_PATIENCE};
 use crate::error::DeploymentError;
 use crate::key::Key;
 use crate::limits::limits_in;
+use crate::signers::signers_at;
 use crate::tables::{
     needed, number_at, number_or, read_table, text_in, texts_in, unknown_in, value_at,
 };
@@ -24,13 +25,15 @@ use bfs_types::{MOST_CLIENTS, MOST_FAULTS};
 use std::alloc::Global;
 use toml::{Table, Value};
 
-const DOCUMENT_KEYS: [Key; 7] = [
+const DOCUMENT_KEYS: [Key; 9] = [
     Key::F,
     Key::Clients,
     Key::Replicas,
     Key::Relay,
     Key::Portmap,
     Key::Patience,
+    Key::Signers,
+    Key::ReplicaSigners,
     Key::Limits,
 ];
 
@@ -43,11 +46,14 @@ fn replicas_in(alloc: Global, value: &Value, f: u32) -> Result<Vec<Text>, Deploy
         .as_array()
         .ok_or(DeploymentError::WrongType(Key::Replicas))?;
     let texts = texts_in(alloc, values.as_slice(), Key::Replicas)?;
-    let replicas = 3 * f + 1;
-    if texts.len() == replicas as usize {
+    let count = 3 * f + 1;
+    if texts.len() == count as usize {
         Ok(texts)
     } else {
-        Err(DeploymentError::WrongCount { replicas })
+        Err(DeploymentError::WrongCount {
+            key: Key::Replicas,
+            count,
+        })
     }
 }
 
@@ -80,6 +86,8 @@ fn deployment_said(alloc: Global, table: &Table) -> Result<Deployment, Deploymen
     let relay = text_in(alloc, needed(table, Key::Relay)?, Key::Relay)?;
     let portmap = portmap_at(alloc, table)?;
     let patience = number_or(DEFAULT_PATIENCE, table, Key::Patience, 1, MOST_PATIENCE)?;
+    let signers = signers_at(alloc, table, Key::Signers, clients)?;
+    let replica_signers = signers_at(alloc, table, Key::ReplicaSigners, 3 * f + 1)?;
     let limits = limits_at(alloc, table)?;
     Ok(Deployment {
         f,
@@ -88,6 +96,8 @@ fn deployment_said(alloc: Global, table: &Table) -> Result<Deployment, Deploymen
         relay,
         portmap,
         patience,
+        signers,
+        replica_signers,
         limits,
     })
 }
@@ -112,6 +122,8 @@ fn deployment_in(alloc: Global, table: &Table) -> Result<Deployment, DeploymentE
 /// | `relay` | a text, where the relay listens |
 /// | `portmap` | a text, where the relay tells its port; it may be left out |
 /// | `patience` | milliseconds, 1 to 60,000, that a replica waits for a request before it asks for the next view; 2,000 where it is left out |
+/// | `signers` | an array of a text for each client, the 120 hexadecimal digits, in either case, of its public key (`lms::HssPublicKey`); it may be left out: then no client signs |
+/// | `replica_signers` | an array of such a text for each replica; it may be left out: then no replica signs |
 /// | `limits` | a table of the most bytes of frames, with the names of `Limits`' fields; what is left out is as in `Limits::new`, which is also the least |
 ///
 /// No other key may stand there. What a text says is not looked into.

@@ -36,12 +36,17 @@ pub enum DeploymentError {
         /// The most that it may be.
         most: u32,
     },
-    /// There are more or fewer replicas than it takes to tolerate that many faults.
-    #[error("replicas: there are to be {replicas} of them")]
+    /// An array has more or fewer texts than it is to have.
+    #[error("{key}: there are to be {count} of them")]
     WrongCount {
-        /// How many there are to be: 3f + 1.
-        replicas: u32,
+        /// The array's key.
+        key: Key,
+        /// How many there are to be: 3f + 1 replicas, as many signers as clients, and as many signers of replicas as these.
+        count: u32,
     },
+    /// A text is no public key in hexadecimal digits.
+    #[error("{0}: one of them is no public key")]
+    NoPublicKey(Key),
     /// Memory ran out.
     #[error("out of memory")]
     Memory,

@@ -19,6 +19,10 @@ pub enum Key {
     Portmap,
     /// How long a replica waits for a request to be executed.
     Patience,
+    /// The public keys of clients that sign their requests.
+    Signers,
+    /// The public keys of replicas that sign what is of a place.
+    ReplicaSigners,
     /// The table of limits.
     Limits,
     /// In that table: the most bytes of a frame of that kind.
@@ -37,6 +41,8 @@ impl Key {
             Key::Relay => "relay",
             Key::Portmap => "portmap",
             Key::Patience => "patience",
+            Key::Signers => "signers",
+            Key::ReplicaSigners => "replica_signers",
             Key::Limits => "limits",
             Key::Limit(kind) => limit_name(kind),
         }
@@ -46,7 +52,7 @@ impl Key {
     pub(crate) fn wanted(self) -> &'static str {
         match self {
             Key::F | Key::Clients | Key::Patience | Key::Limit(_) => "whole number",
-            Key::Replicas => "array of texts",
+            Key::Replicas | Key::Signers | Key::ReplicaSigners => "array of texts",
             Key::Relay | Key::Portmap => "text",
             Key::Limits => "table",
         }

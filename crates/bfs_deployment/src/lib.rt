@@ -1,5 +1,5 @@
-//! The public document of a cluster: how many faults it tolerates, who its replicas and its relay are, and how long and how much each waits for and
-//! takes.
+//! The public document of a cluster: how many faults it tolerates, who its replicas and its relay are, by which keys clients and replicas sign, and how long and how much
+//! each waits for and takes.
 #![tactic(auto)]
 
 mod deployment;
@@ -7,6 +7,7 @@ mod document;
 mod error;
 mod key;
 mod limits;
+mod signers;
 mod tables;
 mod text;
 

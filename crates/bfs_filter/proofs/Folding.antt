@@ -67,6 +67,7 @@ pub refused : {M : Type 0} (takes : M → Turn → List Parcel → M → Type 0)
     → IsUntaken limits old new → Fails takes limits (refusal error) old new
 refused takes limits turn_error.Memory old new untaken = untaken
 refused takes limits (turn_error.Storage error) old new untaken = untaken
+refused takes limits turn_error.Spent old new untaken = untaken
 
 to_end : (a b : Option (List ℕ)) (xs : List ℕ) → Consumes a b xs → IsAtEnd b → Consumes a (Some []) xs
 to_end None b xs c end = tt

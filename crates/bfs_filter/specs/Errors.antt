@@ -7,3 +7,4 @@ use Rattle.bfs_filter.specs.declared.error.TurnError.TheVariants as turn
 abbrev pub refusal : TurnError → ServeError
 refusal turn.Memory = errors.Memory
 refusal (turn.Storage error) = errors.Storage error
+refusal turn.Spent = errors.Spent

@@ -83,6 +83,7 @@ abbrev pub Fails : {M : Type 0} → (M → Turn → List Parcel → M → Type 0
 Fails takes limits (errors.Read error) old new = (new.machine ≡ old.machine) × (new.output ≡ old.output) × NoTurnAt error old.input
 Fails takes limits errors.Memory old new = IsUntaken limits old new
 Fails takes limits (errors.Storage error) old new = IsUntaken limits old new
+Fails takes limits errors.Spent old new = IsUntaken limits old new
 Fails takes limits (errors.Write error) old new = IsUntold takes limits old new
 
 -- turns were served, and the one behind them failed

@@ -16,6 +16,9 @@ pub enum TurnError {
     /// What has to outlive the process before the turn is answered can't be kept.
     #[error("what is to be kept cannot be written: {0}")]
     Storage(io::Error),
+    /// The key that signs what is told is spent: it has no index left.
+    #[error("the signing key is spent")]
+    Spent,
 }
 
 impl From<Memory> for TurnError {
@@ -42,6 +45,9 @@ pub enum ServeError {
     /// The machine can't keep what has to outlive the process.
     #[error("what is to be kept cannot be written: {0}")]
     Storage(io::Error),
+    /// The machine's signing key is spent.
+    #[error("the signing key is spent")]
+    Spent,
     /// The answer can't be written, or not whole.
     #[error("the answer cannot be written: {0}")]
     Write(io::Error),
@@ -62,6 +68,7 @@ impl From<TurnError> for ServeError {
         match error {
             TurnError::Memory => ServeError::Memory,
             TurnError::Storage(error) => ServeError::Storage(error),
+            TurnError::Spent => ServeError::Spent,
         }
     }
 }

@@ -3,10 +3,14 @@ ghost use Rattle.bfs_frames.specs.Frames.{kind_within, most_of};
 ghost use Rattle.bfs_frames.specs.Limits.{default_limits};
 
 use crate::kind::Kind;
+use bfs_auth::MOST_SIGNATURE_BYTES;
 use bfs_types::{MOST_REPLICAS, MOST_REPLY_BYTES, MOST_REQUEST_BYTES};
 
 // the keyed hashes of a message: their number, and 32 bytes of each
 const HASHES: u32 = 4 + 32 * MOST_REPLICAS as u32;
+
+// a signature, which a REQUEST may have in their place: what stands in front of it, and its number of bytes and those
+const SIGNATURE: u32 = 8 + MOST_SIGNATURE_BYTES as u32;
 
 const MEBIBYTE: u32 = 1 << 20;
 
@@ -36,7 +40,7 @@ impl Limits {
         ensures { result ≡ default_limits }
     {
         Limits {
-            request: 20 + MOST_REQUEST_BYTES as u32 + HASHES,
+            request: 20 + MOST_REQUEST_BYTES as u32 + SIGNATURE,
             order: 4 * MEBIBYTE,
             view_change: 64 * MEBIBYTE,
             new_view: 64 * MEBIBYTE,

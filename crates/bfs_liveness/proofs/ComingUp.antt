@@ -148,8 +148,8 @@ module _ (f : ℕ) (members : ℕ → Bool) (w : NodeReplicas) (j i : ℕ) (kept
             (λ x same. subst (λ (y : ℕ). IsIn kept (u y).node.snapshots.kept) (sym same) offers.keeps) i refl;
       }
 
-  one_may : (u : NodeReplicas) (k : ℕ) → Offers u → MayTake members u (catching_up (w k).node c files table)
-  one_may u k offers = cond_both (is_ahead (w k).node c.number) (Adopts c files table) (Settles c) (MayTake members u)
+  one_may : (u : NodeReplicas) (k : ℕ) → Offers u → MayTake members u k (catching_up (w k).node c files table)
+  one_may u k offers = cond_both (is_ahead (w k).node c.number) (Adopts c files table) (Settles c) (MayTake members u k)
       (λ _. ((j, j_is, sym offers.shows), (i, kept, i_is, offers.keeps, number, snapshot))) (λ _. (j, j_is, sym offers.shows))
 
   one_way : (u : NodeReplicas) (k : ℕ) → Offers u → IsWay members u (turns_of k) × Offers (after_node_turns u (turns_of k))

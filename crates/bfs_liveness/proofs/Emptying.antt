@@ -92,7 +92,7 @@ module _ (f : ℕ) (members : ℕ → Bool) where
   may_tell [] only w = tt
   may_tell (turn ∷ turns) only w =
       let first = only turn (inl refl) in
-      (first.0, subst (MayTake members w) (sym first.1) tt, may_tell turns (λ x i. only x (inr i)) (after_node_turn w turn))
+      (first.0, subst (MayTake members w turn.who) (sym first.1) tt, may_tell turns (λ x i. only x (inr i)) (after_node_turn w turn))
 
   own_tells : (k : ℕ) → AreOf k (cond (members k) (record { who = k; step = Checkpoints } ∷ []) [])
   own_tells k turn i =

@@ -86,7 +86,7 @@ module _ (members : ℕ → Bool) (w : NodeReplicas) (asked : (k : ℕ) → memb
       let gives = given_again members w now first.vote heard said (asked said.from said.member) in
       let next = after_votes (turn ∷ []) (λ x i. is_vote members w x (elim i [ inl same ↦ subst (BringsVote members w) (sym same) first | inr none ↦ absurd none ])) now in (
         first.to,
-        subst (MayTake members now) (sym first.step) (said.from, said.member, gives),
+        subst (MayTake members now turn.who) (sym first.step) (said.from, said.member, gives),
         votes_may_come turns (λ x i. brings x (inr i)) (after_node_turn now turn) (all_then w now (after_node_turn now turn) heard next),
       )
 

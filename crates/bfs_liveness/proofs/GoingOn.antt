@@ -1,5 +1,5 @@
 -- A full window is emptied, and members come up to its end, where the primary can propose again.
-use Rattle.std.proofs.Common.{◌≡◌, ℕ, ◌+◌, ◌%◌, ◌==◌, ◌&&◌, Bool, false, cond, not, List, [], ◌++◌, ◌⊎◌, inl, inr, sym, ap, subst, ◌∙◌, append_assoc, arith}
+use Rattle.std.proofs.Common.{◌≡◌, ℕ, ◌+◌, ◌≤◌, ◌%◌, ◌==◌, ◌&&◌, Bool, false, cond, not, List, [], ◌++◌, ◌⊎◌, inl, inr, sym, ap, subst, ◌∙◌, append_assoc, arith}
 use Rattle.std.proofs.Math.Nat.{add-mul-mod_self_left}
 use Rattle.bfs_messages.specs.Messages as model
 use Rattle.bfs_messages.specs.Signing.{as_message}
@@ -21,7 +21,7 @@ use Rattle.bfs_nodes_progress.proofs.Public.{after_join}
 use Rattle.bfs_liveness.specs.Even.{AreEven}
 use Rattle.bfs_liveness.specs.Exchanges.{all_execute, all_tell, emptying, exchange, hearing_and_executing, taking, three_exchanges, told_to}
 use Rattle.bfs_liveness.specs.LawsOfCatching.{MembersComeUp}
-use Rattle.bfs_liveness.specs.LawsOfExecuting.{FullWindowsAreEmptied, HasPlace, IsFull}
+use Rattle.bfs_liveness.specs.LawsOfExecuting.{FullWindowsAreEmptied, IsFull}
 use Rattle.bfs_liveness.specs.LawsOfMeeting.{WaysAreRuns}
 use Rattle.bfs_liveness.specs.LawsOfWindows.{FullWindowsGoOn, WhatIsStableIsAMultiple, WindowsAreBounded}
 use Rattle.bfs_liveness.specs.Waiting.{HasServed, WhatWaitsStays, forgets}
@@ -113,8 +113,7 @@ full_windows_go_on empties come runs bounded multiples stays f keys start faulty
       subst (AreFairTo f keys start faulty members) all up.fair,
       subst (λ (x : List NodeTurn). AreEven f faulty members (reached f keys start x) view end) all
           (subst (λ (n : ℕ). AreEven f faulty members (reached f keys start ((turns ++ first) ++ second)) view n) same up.even),
-      subst (λ (x : List NodeTurn). HasPlace end (next_number (order_of (reached f keys start x) p))) all
-          (omega (arith, next, next_before, same), omega (arith, next, next_before, same, most)),
+      subst (λ (x : List NodeTurn). next_number (order_of (reached f keys start x) p) ≤ end + 1) all (omega (arith, next, next_before, same)),
       λ k member one i.
           let joined : reached f keys start (turns ++ first) ≡ after_node_turns w first = after_join (new_node_replicas f keys start) turns first in
           let behind : reached f keys start ((turns ++ first) ++ second) ≡ after_node_turns (reached f keys start (turns ++ first)) second = after_join (new_node_replicas f keys start) (turns ++ first) second in

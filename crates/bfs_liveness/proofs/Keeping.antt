@@ -3,6 +3,7 @@ use Rattle.std.proofs.Common.{◌≡◌, ℕ, ◌<◌, ◌≤◌, ◌==◌, Bool
 use Rattle.std.specs.Prelude.{nat_le, nat_lt}
 use Rattle.std.proofs.lemmas.Bool.{and_parts, cases_lt, cond_both, eqb-true, le-leb, ltb-true}
 use Rattle.bfs_auth.specs.Keys.{Keys}
+use Rattle.bfs_auth.specs.declared.authenticators.Authenticator.{Authenticator}
 use Rattle.bfs_checkpoints.specs.Certificates.{told_checkpoint}
 use Rattle.bfs_checkpoints.specs.Keeping.{Keeping, Kept, settled, settles, with_snapshot}
 use Rattle.bfs_checkpoints.specs.Snapshots.{snapshot_of}
@@ -132,7 +133,7 @@ change_stays node s =
 leaves_stays : (node : Node) (view : ℕ) → Stays node (outcome node (LeavesFor view)).now
 leaves_stays node view = if_stays node (leaving_refusal node view) (left_for node view) (change_stays (record node { order = (left node.order view).now }) (own_change node view))
 
-message_stays : (node : Node) (m : Message) (auth : List (List ℕ)) → Stays node (outcome node (Takes (record { message = m; auth = auth }))).now
+message_stays : (node : Node) (m : Message) (auth : Authenticator) → Stays node (outcome node (Takes (record { message = m; auth = auth }))).now
 message_stays node (Request request) auth =
     let signed : Signed Message = record { message = Request request; auth = auth } in
     if_stays node (request_refusal node (request_in signed request)) (with_request node (request_in signed request)) (λ x i. inl i)

@@ -1,7 +1,8 @@
 -- Members leave for a view, its primary begins it, and the others enter it.
-use Rattle.std.proofs.Common.{◌≡◌, ℕ, ◌<◌, ◌==◌, Bool, true, false, cond, ◌&&◌, not, List, [], ◌∷◌, ◌++◌, Option, Some, None, inl, inr, refl, sym, ap, subst, ◌∙◌, arith}
+use Rattle.std.proofs.Common.{◌≡◌, ℕ, zero, suc, ◌<◌, ◌≤◌, ◌==◌, Bool, true, false, cond, ◌&&◌, not, List, [], ◌∷◌, ◌++◌, Option, Some, None, inl, inr, refl, sym, ap, subst, ◌∙◌, arith}
 use Rattle.std.proofs.lemmas.Bool.{and_from, and_parts, cases_Bool, cond_both, eqb-false, eqb-true}
 use Rattle.bfs_auth.specs.Keys.{Keys}
+use Rattle.bfs_model.specs.Server.Limits.{most_number}
 use Rattle.bfs_messages.specs.Messages as model
 use Rattle.bfs_messages.specs.Signing.{as_message}
 use Rattle.bfs_messages.specs.declared.message.Message.TheVariants.{NewView, ViewChange}
@@ -15,12 +16,12 @@ use Rattle.bfs_progress.specs.Members.{IsQuorum}
 use Rattle.bfs_progress.proofs.Public.{differs, one_more}
 use Rattle.bfs_node.specs.Changing.{leads}
 use Rattle.bfs_node.specs.Resending.{resent}
-use Rattle.bfs_nodes_agree.specs.Nodes.Replicas.{Beginning, Keyring, NodeReplica, NodeReplicas, NodeTurn, after_node_step, after_node_turns, new_node_replicas}
+use Rattle.bfs_nodes_agree.specs.Nodes.Replicas.{Beginning, Keyring, NodeReplica, NodeReplicas, NodeTurn, after_node_step, after_node_turn, after_node_turns, new_node_replicas}
 use Rattle.bfs_nodes_agree.specs.Nodes.Resending.{WhatIsResentIsFair}
 use Rattle.bfs_nodes_agree.specs.Nodes.Steps.{LeavesFor, Takes, outcome}
-use Rattle.bfs_nodes_agree.proofs.Public.{here_after, right_in, some_is}
+use Rattle.bfs_nodes_agree.proofs.Public.{both_at, here_after, right_in, some_is}
 use Rattle.bfs_nodes_progress.specs.Begun.{AllAsk, ChangesCome}
-use Rattle.bfs_nodes_progress.specs.Following.{AreMembers, asked_by}
+use Rattle.bfs_nodes_progress.specs.Following.{AreMembers, asked_by, each_takes}
 use Rattle.bfs_nodes_progress.specs.Giving.{GivesChange, GivesNewView}
 use Rattle.bfs_nodes_progress.specs.Inside.Below.{Below}
 use Rattle.bfs_nodes_progress.specs.Members.{AreTogether}
@@ -28,10 +29,11 @@ use Rattle.bfs_nodes_progress.specs.Runs.{IsARun, order_of, reached}
 use Rattle.bfs_nodes_progress.proofs.Public.{AreOf, after_join, always, changes_are_given, each_once, entered_asked, new_views_are_given, same_f, same_me, views_are_begun}
 use Rattle.bfs_liveness.specs.LawsOfMeeting.{MembersMeet, MembersMeetIn}
 use Rattle.bfs_liveness.specs.Meeting.{KeepsWork, MayMeetIn, Meets, all_enter, all_leave, all_tell, of_others, taking_change, taking_view}
-use Rattle.bfs_liveness.specs.Ways.{AreFairTo, GivesPass, IsWay}
+use Rattle.bfs_liveness.specs.Ways.{AllSignIn, AreFairTo, GivesPass, IsWay, views_of}
+use Rattle.bfs_liveness.proofs.Kept.{by_step, most_views}
 use Rattle.bfs_liveness.proofs.Leading.{a_member_leads, latest_among}
 use Rattle.bfs_liveness.proofs.Lists.{in_each, in_where, out_of_each, out_of_where}
-use Rattle.bfs_liveness.proofs.Turns.{Rests, each_way, given_way, kept_by, stays}
+use Rattle.bfs_liveness.proofs.Turns.{Rests, given_way, kept_by, stays}
 use Rattle.bfs_liveness.proofs.Ways.{goes_on, ways_join}
 use Rattle.bfs_liveness.proofs.Work.{HasEntered, HasLeft, Waits, enters, leaves, takes_waits, waits_both, waits_itself, work_both, work_itself}
 
@@ -114,8 +116,26 @@ module _ (laws : Below) (again : WhatIsResentIsFair) (f : ℕ) (keys : Keyring) 
   leaving_own k = cond_both (members k) (record { who = k; step = LeavesFor view } ∷ []) [] (AreOf k)
       (λ _ turn i. elim i [ inl e ↦ ap (λ (y : NodeTurn). y.who) e | inr none ↦ absurd none ]) (λ _ turn i. absurd i)
 
+  -- all can sign in it, whoever has left
+  still_sign : (u : NodeReplicas) (k : ℕ) → AllSignIn members u view → AllSignIn members (after_node_turn u (record { who = k; step = LeavesFor view })) view
+  still_sign u k all = both_at u (record { who = k; step = LeavesFor view }) (λ j r. members j ≡ true → view < views_of r.node.keys.signer)
+      (λ member. subst (λ (x : Keys). view < views_of x.signer) (sym (by_step (u k).node (LeavesFor view)).keys) (all k member)) all
+
+  leaving_way : (bound : ℕ) (u : NodeReplicas) → AllSignIn members u view → IsWay members u (each_takes leaving bound)
+  leaving_way zero u all = tt
+  leaving_way (suc b) u all =
+      let first = cond_both (members b) (record { who = b; step = LeavesFor view } ∷ []) [] (λ (x : List NodeTurn). IsWay members u x × AllSignIn members (after_node_turns u x) view)
+      (λ is. ((is, all, tt), still_sign u b all)) (λ _. (tt, all)) in
+      ways_join members u (leaving b) (each_takes leaving b) first.0 (leaving_way b (after_node_turns u (leaving b)) first.1)
+
   one_way : IsWay members w one
-  one_way = each_way members leaving (λ u k. cond_both (members k) (record { who = k; step = LeavesFor view } ∷ []) [] (IsWay members u) (λ is. (is, tt, tt)) (λ _. tt)) (replicas f) w
+  one_way = leaving_way (replicas f) w may.signed
+
+  number : view ≤ most_number
+  number =
+      let low = may.signed p may.leads in
+      let most = most_views (w p).node.keys.signer in
+      omega (arith, low, most)
 
   has_left : (k : ℕ) → members k ≡ true → HasLeft view (w k).node (w1 k).node
   has_left k member =
@@ -125,7 +145,7 @@ module _ (laws : Below) (again : WhatIsResentIsFair) (f : ℕ) (keys : Keyring) 
       let is : w1 k ≡ after_node_turns w (leaving k) k = each_once w leaving leaving_own (replicas f) k (are.among k member) in
       let takes : after_node_turns w (leaving k) k ≡ after_node_step (w k) (LeavesFor view) =
       ap (λ (b : Bool). after_node_turns w (cond b (record { who = k; step = LeavesFor view } ∷ []) []) k) member ∙ here_after w (record { who = k; step = LeavesFor view }) in
-      subst (λ (r : NodeReplica). HasLeft view (w k).node r.node) (sym (is ∙ takes)) (leaves (w k).node view (omega (arith, entered, later)) (omega (arith, later)) may.number)
+      subst (λ (r : NodeReplica). HasLeft view (w k).node r.node) (sym (is ∙ takes)) (leaves (w k).node view (omega (arith, entered, later)) (omega (arith, later)) number)
 
   -- none has entered it but its primary
   before : (k : ℕ) → members k ≡ true → (k == p) ≡ false → (order_of w1 k).view < view
@@ -297,7 +317,6 @@ module _ (laws : Below) (again : WhatIsResentIsFair) (f : ℕ) (keys : Keyring) 
       let early = before k member other in
       let still = ap (λ (r : NodeReplica). r.node.order.view) (stays two w1 k (others_rest k other)) in
       let asked = asks k member in
-      let number = may.number in
       subst (λ (r : NodeReplica). HasEntered view (w2 k).node r.node) (sym (is ∙ takes))
       (subst (λ (v : ℕ). HasEntered v (w2 k).node (outcome (w2 k).node (Takes (as_message NewView new))).now) of_view
       (enters (w2 k).node new (right_for k member) (omega (arith, early, still, of_view)) (omega (arith, asked, of_view)) (omega (arith, number, of_view))))
@@ -341,8 +360,7 @@ members_meet laws again f keys start faulty members turns run are fair views =
     let latest = latest_among (asked_by w) members (replicas f) some.0 some.2 in
     let chosen = a_member_leads f faulty members (asked_by w latest.0) are in
     let above = chosen.1 in
-    let near = chosen.2 in
-    let there = views latest.0 latest.1 in (
+    let near = chosen.2 in (
       chosen.0,
       latest.0,
       latest.1,
@@ -350,6 +368,6 @@ members_meet laws again f keys start faulty members turns run are fair views =
       members_meet_in laws again f keys start faulty members turns chosen.0 run are fair (record {
         leads = chosen.3;
         later = λ k member. let le = latest.2 k (are.among k member) member in omega (arith, le, above);
-        number = omega (arith, near, there);
+        signed = λ k member. let there = views latest.0 k latest.1 member in omega (arith, near, there);
       }),
     )

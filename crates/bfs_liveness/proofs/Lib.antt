@@ -1,4 +1,5 @@
 pub mod Lists
+pub mod Kept
 pub mod Ways
 pub mod Leading
 pub mod Work
@@ -35,3 +36,4 @@ pub mod Composing
 pub mod GoingOn
 pub mod Answered
 pub mod Served
+pub mod Public

@@ -1,5 +1,6 @@
 -- Each CHECKPOINT that a node has sent is of a multiple of the interval, and so is what is stable.
 use Rattle.std.proofs.Common.{◌≡◌, ℕ, ◌%◌, ◌<◌, Bool, List, [], ◌∷◌, inl, inr, refl, ap, subst, ◌∙◌}
+use Rattle.bfs_auth.specs.declared.authenticators.Authenticator.{Authenticator}
 use Rattle.bfs_log.specs.Headers.{header}
 use Rattle.bfs_messages.specs.Messages as model
 use Rattle.bfs_messages.specs.declared.message.Message.{Message}
@@ -50,7 +51,7 @@ checkpoints_are_of_multiples laws f keys start faulty turns k s c run i e =
 
 -- What is stable ------------------------------------------------------------------------------------------------------
 
-is_checkpoint : (m : OrderMessage) (auth : List (List ℕ)) → (header (record { message = m; auth = auth })).tag ≡ 5
+is_checkpoint : (m : OrderMessage) (auth : Authenticator) → (header (record { message = m; auth = auth })).tag ≡ 5
     → (c : model.Checkpoint) × (m ≡ Checkpoint c) × (c.number ≡ (header (record { message = m; auth = auth })).number)
 is_checkpoint (Checkpoint c) auth five = (c, refl, refl)
 is_checkpoint other auth five = absurd cc

@@ -34,7 +34,7 @@ use Rattle.bfs_nodes_progress.proofs.Public.{AreOf, Leads, after_join, always, e
 use Rattle.bfs_liveness.specs.Even.{AreEven}
 use Rattle.bfs_liveness.specs.Exchanges.{all_execute, exchange, hearing_and_executing, ordering, three_exchanges}
 use Rattle.bfs_liveness.specs.LawsOfExecuting.{HasJustExecuted, HasPlace, NoneIsBeyond, NoneIsLeftOut, SomeIsProposed, WhatWaitsIsExecuted}
-use Rattle.bfs_liveness.specs.Ways.{AreFairTo, IsWay, MayTake}
+use Rattle.bfs_liveness.specs.Ways.{AllSignOf, AreFairTo, IsWay, MayTake}
 use Rattle.bfs_liveness.proofs.Executions.{IsExecuted, all_run, executed_below, executed_to, number_of}
 use Rattle.bfs_liveness.proofs.Lists.{out_of_each, out_of_where}
 use Rattle.bfs_liveness.proofs.Proposed.{found_told, proposes_found}
@@ -90,7 +90,7 @@ module _ (members : ℕ → Bool) where
   may_execute [] only w = tt
   may_execute (turn ∷ turns) only w =
       let first = only turn (inl refl) in
-      (first.0, subst (MayTake members w) (sym first.1) tt, may_execute turns (λ x i. only x (inr i)) (after_node_turn w turn))
+      (first.0, subst (MayTake members w turn.who) (sym first.1) tt, may_execute turns (λ x i. only x (inr i)) (after_node_turn w turn))
 
 module _ (f : ℕ) (members : ℕ → Bool) (w : NodeReplicas) (number : ℕ) where
   -- those of one
@@ -125,7 +125,8 @@ AreOrdered f keys start faulty members turns number batch way =
 module _ (laws : Below) (again : WhatIsResentIsFair) (left_out : NoneIsLeftOut) (beyond : NoneIsBeyond) (are : StepsAreTurns)
     (f : ℕ) (keys : Keyring) (start : Beginning) (faulty members : ℕ → Bool) (turns : List NodeTurn) (view low : ℕ) (time : Time)
     (run : IsARun f keys start faulty turns) (fair : AreFairTo f keys start faulty members turns) (even : AreEven f faulty members (reached f keys start turns) view low)
-    (place : HasPlace low (next_number (order_of (reached f keys start turns) (primary f view)))) (is_time : IsTime time) where
+    (place : HasPlace low (next_number (order_of (reached f keys start turns) (primary f view))))
+    (sign : AllSignOf members (reached f keys start turns) (next_number (order_of (reached f keys start turns) (primary f view)))) (is_time : IsTime time) where
   abbrev begun : NodeReplicas
   begun = new_node_replicas f keys start
 
@@ -193,7 +194,7 @@ module _ (laws : Below) (again : WhatIsResentIsFair) (left_out : NoneIsLeftOut) 
   at = after_join begun turns call
 
   first : IsWay members w call
-  first = (leads_it, is_time, tt)
+  first = (leads_it, (is_time, sign), tt)
 
   goes1 : G given
   goes1 = by turns call goes first
@@ -375,5 +376,5 @@ module _ (laws : Below) (again : WhatIsResentIsFair) (left_out : NoneIsLeftOut) 
       subst (λ (x : NodeReplicas). AreOrdered f keys start faulty members turns number batch (call ++ hearing_and_executing f members x number)) at heard
 
 pub what_waits_is_executed : Below → WhatIsResentIsFair → NoneIsLeftOut → NoneIsBeyond → StepsAreTurns → WhatWaitsIsExecuted
-what_waits_is_executed laws again left_out beyond are f keys start faulty members turns view low time run fair even place is_time =
-    orders laws again left_out beyond are f keys start faulty members turns view low time run fair even place is_time
+what_waits_is_executed laws again left_out beyond are f keys start faulty members turns view low time run fair even place sign is_time =
+    orders laws again left_out beyond are f keys start faulty members turns view low time run fair even place sign is_time

@@ -160,11 +160,10 @@ what_waits_at_one_is_executed meet runs come marks go_on execute are agree f key
     let view = chosen.0 in
     let above = chosen.1 in
     let near = chosen.2 in
-    let there = views latest.0 latest.1 in
     let meets = meet f keys start faulty members turns view run among fair (record {
       leads = ap members chosen.3 ∙ member;
       later = λ j is. let le = latest.2 j (among.among j is) is in omega (arith, le, above);
-      number = omega (arith, near, there);
+      signed = λ j is. let there = views latest.0 j latest.1 is in omega (arith, near, there);
     }) in
     let ready = ready_in runs come marks f keys start faulty members turns (meeting f members w view) view run among fair future meets in
     let got = served_in go_on execute f keys start faulty members turns ready.1 view ready.0 time ready.2 is_time in

@@ -2,6 +2,7 @@
 use Rattle.std.proofs.Common.{◌≡◌, ℕ, ◌+◌, ◌*◌, ◌<◌, ◌≤◌, Bool, true, false, not, List, [], ◌∷◌, ◌⊎◌, Some, None, inl, inr, refl, sym, ap, subst, ◌∙◌, arith}
 use Rattle.std.proofs.lemmas.Bool.{leb-true}
 use Rattle.bfs_auth.specs.declared.principals.Principal.TheVariants as principal
+use Rattle.bfs_auth.specs.declared.authenticators.Authenticator.{Authenticator}
 use Rattle.bfs_log.specs.Certificates.{faults}
 use Rattle.bfs_log.specs.Headers.{header}
 use Rattle.bfs_log.specs.Logs.{headers}
@@ -58,7 +59,7 @@ offer_number : (m : Message) (p : Signed OrderMessage) → IsIn p (offers_in m) 
 offer_number (NewView new) p i = ap (λ (x : Signed OrderMessage). told_number (Order x.message)) (out_of_map (as_message PrePrepare) new.proposals p i).2
 offer_number other p i = absurd i
 
-header_number : (m : OrderMessage) (auth : List (List ℕ)) → (header (record { message = m; auth = auth })).tag ≡ 5 → (header (record { message = m; auth = auth })).number ≡ told_number (Order m)
+header_number : (m : OrderMessage) (auth : Authenticator) → (header (record { message = m; auth = auth })).tag ≡ 5 → (header (record { message = m; auth = auth })).number ≡ told_number (Order m)
 header_number (Checkpoint c) auth five = refl
 header_number other auth five = absurd cc
 

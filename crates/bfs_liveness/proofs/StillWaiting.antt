@@ -1,6 +1,7 @@
 -- A node loses no request but by executing it, or where its host has it forget some.
 use Rattle.std.proofs.Common.{◌≡◌, ℕ, ◌==◌, ◌&&◌, true, false, cond, not, List, [], ◌∷◌, ◌⊎◌, Option, Some, None, option_map, bytes_eq, inl, inr, refl, sym, ap, subst}
 use Rattle.std.proofs.lemmas.Bool.{cases_Bool, cond_both, eqb-true}
+use Rattle.bfs_auth.specs.declared.authenticators.Authenticator.{Authenticator}
 use Rattle.bfs_checkpoints.specs.Texts.{node_digest}
 use Rattle.bfs_codec.specs.Reading.{message_of}
 use Rattle.bfs_log.specs.Batches.{Committed}
@@ -96,7 +97,7 @@ if_waits node (Some refused) out waits = λ one i. i
 request_waits : (node : Node) (request : Signed model.Request) → KeepsAll node (with_request node request).now
 request_waits node request one i = left_in node.pending (request ∷ []) one i
 
-message_waits : (node : Node) (m : Message) (auth : List (List ℕ)) → KeepsAll node (outcome node (Takes (record { message = m; auth = auth }))).now
+message_waits : (node : Node) (m : Message) (auth : Authenticator) → KeepsAll node (outcome node (Takes (record { message = m; auth = auth }))).now
 message_waits node (Request request) auth =
     let signed : Signed Message = record { message = Request request; auth = auth } in
     if_waits node (request_refusal node (request_in signed request)) (with_request node (request_in signed request)) (request_waits node (request_in signed request))

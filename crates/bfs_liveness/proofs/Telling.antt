@@ -2,6 +2,7 @@
 use Rattle.std.proofs.Common.{◌≡◌, ℕ, ◌%◌, ◌==◌, Bool, true, false, cond, not, List, [], ◌∷◌, Option, Some, None, ◌&&◌, bytes_eq, option_map, inl, inr, refl, sym, ap, subst, ◌∙◌, arith}
 use Rattle.std.proofs.lemmas.Bool.{eqb-true}
 use Rattle.bfs_auth.specs.Authenticators.{signature_for_client}
+use Rattle.bfs_auth.specs.declared.authenticators.Authenticator.{Authenticator}
 use Rattle.bfs_codec.specs.Reading.{message_of}
 use Rattle.bfs_checkpoints.specs.Keeping.{Kept}
 use Rattle.bfs_checkpoints.specs.Snapshots.{snapshot_of}
@@ -117,7 +118,7 @@ order_tells node m = if_tells node (option_map of_order (refusal node.keys node.
     let done = accepted node.keys node.order m in
     votes_tell node.order (order.Takes node.keys m) done.sent (ap (λ (r : Option OrderError). (outcomes.unless r node.order done).sent) (not_refused (refusal node.keys node.order m) none)))
 
-message_tells : (node : Node) (m : Message) (auth : List (List ℕ)) → IsBounded node.order → TellsNone (outcome node (Takes (record { message = m; auth = auth }))).sent
+message_tells : (node : Node) (m : Message) (auth : Authenticator) → IsBounded node.order → TellsNone (outcome node (Takes (record { message = m; auth = auth }))).sent
 message_tells node (Request request) auth bounded =
     let signed : Signed Message = record { message = Request request; auth = auth } in
     if_tells node (request_refusal node (request_in signed request)) (with_request node (request_in signed request)) (λ _ s c i e. i)
@@ -137,7 +138,7 @@ bytes_tells node bytes bounded = elim (message_of bytes) as (λ o. TellsNone (un
   | Some m ↦ message_tells node m.message m.auth bounded
 ]
 
-again_tells : (reply : model.Reply) (sig : Option (List (List ℕ))) → TellsNone (sent_for (answered (option_map (signed_reply reply) sig)))
+again_tells : (reply : model.Reply) (sig : Option Authenticator) → TellsNone (sent_for (answered (option_map (signed_reply reply) sig)))
 again_tells reply None = λ s c i e. i
 again_tells reply (Some auth) = one_more (signed_reply reply auth) [] (λ c e. absurd cc) (λ s c i e. i)
 

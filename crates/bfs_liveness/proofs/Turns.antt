@@ -1,5 +1,5 @@
 -- Turns of many nodes, one behind another: what those that take none keep, and when they are a way.
-use Rattle.std.proofs.Common.{◌≡◌, ℕ, zero, suc, ◌==◌, Bool, true, false, cond, List, [], ◌∷◌, inl, inr, refl, sym, ap, subst, ◌∙◌}
+use Rattle.std.proofs.Common.{◌≡◌, ℕ, ◌==◌, Bool, true, false, cond, List, [], ◌∷◌, inl, inr, refl, sym, ap, subst, ◌∙◌}
 use Rattle.std.proofs.lemmas.Bool.{cond_both, eqb-true}
 use Rattle.bfs_messages.specs.declared.message.Message.{Message}
 use Rattle.bfs_messages.specs.declared.signed.Signed.{Signed}
@@ -7,9 +7,7 @@ use Rattle.bfs_node.specs.Nodes.{Node}
 use Rattle.bfs_agreement.specs.Histories.{IsIn}
 use Rattle.bfs_nodes_agree.specs.Nodes.Replicas.{NodeReplica, NodeReplicas, NodeTurn, after_node_step, after_node_turn, after_node_turns}
 use Rattle.bfs_nodes_agree.specs.Nodes.Steps.{Takes, outcome}
-use Rattle.bfs_nodes_progress.specs.Following.{each_takes}
 use Rattle.bfs_liveness.specs.Ways.{Gives, IsWay, MayTake}
-use Rattle.bfs_liveness.proofs.Ways.{ways_join}
 
 -- a node takes none of them
 abbrev pub Rests : (k : ℕ) → List NodeTurn → Type 0
@@ -49,7 +47,7 @@ module _ (members : ℕ → Bool) where
   given_way (turn ∷ turns) w given =
       let first = given turn (inl refl) in (
         first.to,
-        subst (MayTake members w) (sym first.step) (first.from, first.member, first.gives),
+        subst (MayTake members w turn.who) (sym first.step) (first.from, first.member, first.gives),
         given_way turns (after_node_turn w turn) (λ other i.
             let later = given other (inr i) in
             record {
@@ -62,7 +60,3 @@ module _ (members : ℕ → Bool) where
               rests = λ x j. later.rests x (inr j);
             }),
       )
-
-  pub each_way : (turns : ℕ → List NodeTurn) → ((w : NodeReplicas) (k : ℕ) → IsWay members w (turns k)) → (bound : ℕ) (w : NodeReplicas) → IsWay members w (each_takes turns bound)
-  each_way turns each zero w = tt
-  each_way turns each (suc b) w = ways_join members w (turns b) (each_takes turns b) (each w b) (each_way turns each b (after_node_turns w (turns b)))

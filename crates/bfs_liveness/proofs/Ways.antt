@@ -23,7 +23,7 @@ use Rattle.bfs_nodes_progress.specs.Inside.Below.{Below}
 use Rattle.bfs_nodes_progress.specs.Runs.{IsARun, order_of, reached}
 use Rattle.bfs_nodes_progress.proofs.Public.{Leads, after_join, always, authentic_both}
 use Rattle.bfs_liveness.specs.LawsOfMeeting.{WaysAreRuns}
-use Rattle.bfs_liveness.specs.Ways.{AreFairTo, GivesPass, IsAMembers, IsWay, MayTake}
+use Rattle.bfs_liveness.specs.Ways.{AllFits, AreFairTo, GivesPass, IsAMembers, IsWay, MayTake}
 
 -- Ways behind ways ----------------------------------------------------------------------------------------------------
 
@@ -54,7 +54,7 @@ module _ (f : ℕ) (keys : Keyring) (start : Beginning) (members : ℕ → Bool)
 -- Runs ----------------------------------------------------------------------------------------------------------------
 
 module _ (laws : Below) (again : WhatIsResentIsFair) (f : ℕ) (keys : Keyring) (start : Beginning) (faulty members : ℕ → Bool) (correct : (k : ℕ) → members k ≡ true → faulty k ≡ false) where
-  module _ (turns : List NodeTurn) (run : IsARun f keys start faulty turns) (passes : GivesPass f keys members (reached f keys start turns)) where
+  module _ (turns : List NodeTurn) (run : IsARun f keys start faulty turns) (fits : AllFits members (reached f keys start turns)) where
     abbrev w : NodeReplicas
     w = reached f keys start turns
 
@@ -81,37 +81,44 @@ module _ (laws : Below) (again : WhatIsResentIsFair) (f : ℕ) (keys : Keyring) 
         let was = again f keys start faulty turns run.others run.shared run.authentic j (correct j member) to m by i p of k e signed fine in
         said_alike faulty w was.part.message p.message was.same ((right was.who).said was.sent was.given was.part was.is) k e fine
 
-    comes_so : (by : Keys) (step : NodeStep) → MayTake members w step → Comes (IsAuthentic faulty w by) step
-    comes_so by (Takes m) may =
+    comes_so : (by : Keys) (who : ℕ) (step : NodeStep) → MayTake members w who step → Comes (IsAuthentic faulty w by) step
+    comes_so by who (Takes m) may =
         let j = may.0 in (
-          passes.fits j m may.1 may.2,
+          fits j m may.1 may.2,
           elim may.2 [
             | inl sent ↦ λ p of k e signed fine. (right j).said m sent p of k e fine
             | inr given ↦ given_so by j may.1 given.0 m given.1
           ],
         )
-    comes_so by (Adopts checkpoint files table) may = shown_so by checkpoint may.0
-    comes_so by (Settles checkpoint) may = shown_so by checkpoint may
-    comes_so by (Delivers bytes) may = absurd may
-    comes_so by step may = tt
+    comes_so by who (Adopts checkpoint files table) may = shown_so by checkpoint may.0
+    comes_so by who (Settles checkpoint) may = shown_so by checkpoint may
+    comes_so by who (Delivers bytes) may = absurd may
+    comes_so by who step may = tt
 
     -- by a turn that members may take the run goes on
-    turn_runs : (turn : NodeTurn) → MayTake members w turn.step → IsARun f keys start faulty (turns ++ turn ∷ [])
+    turn_runs : (turn : NodeTurn) → MayTake members w turn.who turn.step → IsARun f keys start faulty (turns ++ turn ∷ [])
     turn_runs turn may = record {
       others = run.others;
       shared = run.shared;
       few = run.few;
-      authentic = authentic_both faulty (new_node_replicas f keys start) turns (turn ∷ []) run.authentic (comes_so (w turn.who).node.keys turn.step may, tt);
+      authentic = authentic_both faulty (new_node_replicas f keys start) turns (turn ∷ []) run.authentic (comes_so (w turn.who).node.keys turn.who turn.step may, tt);
     }
 
-  pub goes_on : (turns way : List NodeTurn) → IsARun f keys start faulty turns → AreFairTo f keys start faulty members turns → IsWay members (reached f keys start turns) way → IsARun f keys start faulty (turns ++ way)
-  goes_on turns [] run fair is = subst (IsARun f keys start faulty) (sym (append-nil turns)) run
-  goes_on turns (turn ∷ way) run fair is =
+  -- where all fits that they give, by the way
+  pub runs_on : (turns way : List NodeTurn) → IsARun f keys start faulty turns
+      → ((further : List NodeTurn) → IsWay members (reached f keys start turns) further → AllFits members (reached f keys start (turns ++ further)))
+      → IsWay members (reached f keys start turns) way → IsARun f keys start faulty (turns ++ way)
+  runs_on turns [] run fits is = subst (IsARun f keys start faulty) (sym (append-nil turns)) run
+  runs_on turns (turn ∷ way) run fits is =
       let one = turn ∷ [] in
       let joined = after_join (new_node_replicas f keys start) turns one in
-      let next = turn_runs turns run (passes_now f keys start members faulty turns fair) turn is.1 in
+      let now = subst (λ (x : List NodeTurn). AllFits members (reached f keys start x)) (append-nil turns) (fits [] tt) in
+      let next = turn_runs turns run now turn is.1 in
       subst (IsARun f keys start faulty) (append_assoc turns one way)
-      (goes_on (turns ++ one) way next (fair_behind f keys start members faulty turns one fair (is.0, is.1, tt)) (subst (λ (x : NodeReplicas). IsWay members x way) (sym joined) is.2))
+      (runs_on (turns ++ one) way next (behind f keys start members (AllFits members) turns one fits (is.0, is.1, tt)) (subst (λ (x : NodeReplicas). IsWay members x way) (sym joined) is.2))
+
+  pub goes_on : (turns way : List NodeTurn) → IsARun f keys start faulty turns → AreFairTo f keys start faulty members turns → IsWay members (reached f keys start turns) way → IsARun f keys start faulty (turns ++ way)
+  goes_on turns way run fair is = runs_on turns way run (λ further way_is. (fair.passes further way_is).fits) is
 
 pub ways_are_runs : Below → WhatIsResentIsFair → WaysAreRuns
 ways_are_runs laws again f keys start faulty members turns way run are fair is = (

@@ -15,7 +15,7 @@ use Rattle.bfs_nodes_progress.specs.Members.{AreTogether, IsProposed, is_committ
 use Rattle.bfs_nodes_progress.specs.Runs.{IsARun, order_of, reached}
 use Rattle.bfs_liveness.specs.Even.{AreEven}
 use Rattle.bfs_liveness.specs.Exchanges.{emptying, ordering, three_exchanges}
-use Rattle.bfs_liveness.specs.Ways.{AreFairTo, IsWay}
+use Rattle.bfs_liveness.specs.Ways.{AllSignOf, AreFairTo, IsWay}
 
 -- What has been proposed ----------------------------------------------------------------------------------------------
 
@@ -80,7 +80,7 @@ pub record HasJustExecuted (r : NodeReplica) (number : ℕ) (batch : Batch) : Ty
   pub last : r.node.order.last ≡ number
   pub live : is_some r.node.files ≡ true
 
--- where members are even, and the primary's next number has room, ordering is a way behind which each has executed the batch of what waited there
+-- where members are even, and the primary's next number has room and can be signed, ordering is a way behind which each has executed the batch of what waited there
 abbrev pub WhatWaitsIsExecuted : Type 0
 WhatWaitsIsExecuted = (f : ℕ) (keys : Keyring) (start : Beginning) (faulty members : ℕ → Bool) (turns : List NodeTurn) (view low : ℕ) (time : Time)
     → let w = reached f keys start turns in
@@ -91,6 +91,7 @@ WhatWaitsIsExecuted = (f : ℕ) (keys : Keyring) (start : Beginning) (faulty mem
     → AreFairTo f keys start faulty members turns
     → AreEven f faulty members w view low
     → HasPlace low number
+    → AllSignOf members w number
     → IsTime time
     → IsWay members w way
     × IsARun f keys start faulty (turns ++ way)

@@ -30,6 +30,6 @@ MembersMeetIn = (f : ℕ) (keys : Keyring) (start : Beginning) (faulty members :
 abbrev pub MembersMeet : Type 0
 MembersMeet = (f : ℕ) (keys : Keyring) (start : Beginning) (faulty members : ℕ → Bool) (turns : List NodeTurn)
     → IsARun f keys start faulty turns → AreMembers f faulty members → AreFairTo f keys start faulty members turns
-    → HaveViews f members (reached f keys start turns)
+    → HaveViews members (reached f keys start turns) (f + 1)
     → (view : ℕ) × (latest : ℕ) × (members latest ≡ true) × (view ≤ asked_by (reached f keys start turns) latest + (f + 1))
     × Meets f keys start faulty members turns (meeting f members (reached f keys start turns) view) view

@@ -1,5 +1,5 @@
 -- From every state that nodes can come into what waits is executed: contracts of functions of src/progress.rt, which do nothing.
-use Rattle.std.specs.Prelude.{◌≡◌, ◌⊎◌, ℕ, ◌+◌, ◌≤◌, ◌^◌, Bool, true, false, List, ◌++◌, Some}
+use Rattle.std.specs.Prelude.{◌≡◌, ◌⊎◌, ℕ, ◌+◌, ◌≤◌, Bool, true, false, List, ◌++◌, Some}
 use Rattle.bfs_messages.specs.Messages as model
 use Rattle.bfs_messages.specs.Messages.{Batch}
 use Rattle.bfs_messages.specs.declared.signed.Signed.{Signed}
@@ -19,7 +19,7 @@ use Rattle.bfs_liveness.specs.Even.{AreEven}
 use Rattle.bfs_liveness.specs.Exchanges.{ordering}
 use Rattle.bfs_liveness.specs.LawsOfExecuting.{HasJustExecuted, HasPlace}
 use Rattle.bfs_liveness.specs.Waiting.{HasServed, KeepsWaiting}
-use Rattle.bfs_liveness.specs.Ways.{AreFairTo, HasFuture, IsWay}
+use Rattle.bfs_liveness.specs.Ways.{AllSignOf, AreFairTo, HasFuture, HaveViews, IsWay}
 
 -- behind a way members are even in a view that one of them leads, hear one another still, and what waited at each of them waits there
 pub record AreReady (f : ℕ) (keys : Keyring) (start : Beginning) (faulty members : ℕ → Bool) (turns way : List NodeTurn) (view low : ℕ) : Type 0 where
@@ -29,7 +29,7 @@ pub record AreReady (f : ℕ) (keys : Keyring) (start : Beginning) (faulty membe
   pub fair : AreFairTo f keys start faulty members (turns ++ way)
   pub even : AreEven f faulty members (reached f keys start (turns ++ way)) view low
   pub waits : (k : ℕ) → members k ≡ true → (reached f keys start (turns ++ way) k).node.pending ≡ (reached f keys start turns k).node.pending
-  pub bounded : low + (log_size + 2) ≤ 2 ^ 63
+  pub bounded : AllSignOf members (reached f keys start (turns ++ way)) (low + (log_size + 1))
 
 -- behind a way each member has executed, as that number and the last one, all that waited at the primary of the view before it
 pub record AreServed (f : ℕ) (keys : Keyring) (start : Beginning) (faulty members : ℕ → Bool) (turns way : List NodeTurn) (view number : ℕ) (time : Time) : Type 0 where
@@ -99,11 +99,11 @@ EachRequestIsExecuted = (f : ℕ) (keys : Keyring) (start : Beginning) (faulty m
     × ((one : Signed model.Request) → ((k : ℕ) → members k ≡ true → IsIn one (reached f keys start turns k).node.pending)
     → IsServed start faulty members (reached f keys start (turns ++ way)) one)
 
--- and for each member there is one behind which each request that waits at that one is served: it leads one of 3f + 1 views in a row, of which there are 2^63
+-- and for each member there is one behind which each request that waits at that one is served: it leads one of 3f + 1 views in a row
 abbrev pub WhatWaitsAtOneIsExecuted : Type 0
 WhatWaitsAtOneIsExecuted = (f : ℕ) (keys : Keyring) (start : Beginning) (faulty members : ℕ → Bool) (turns : List NodeTurn) (k : ℕ) (time : Time)
     → IsARun f keys start faulty turns → AreMembers f faulty members → AreFairTo f keys start faulty members turns → HasFuture f members (reached f keys start turns)
-    → ((j : ℕ) → members j ≡ true → asked_by (reached f keys start turns) j + (replicas f + 1) ≤ 2 ^ 63) → IsTime time → members k ≡ true
+    → HaveViews members (reached f keys start turns) (replicas f) → IsTime time → members k ≡ true
     → (way : List NodeTurn)
     × IsWay members (reached f keys start turns) way
     × IsARun f keys start faulty (turns ++ way)

@@ -17,7 +17,6 @@ use Rattle.bfs_nodes_agree.specs.Nodes.Replicas.{Beginning, Keyring, NodeTurn}
 use Rattle.bfs_nodes_progress.specs.Following.{AreMembers}
 use Rattle.bfs_nodes_progress.specs.Runs.{IsARun, order_of, reached}
 use Rattle.bfs_liveness.specs.Even.{AreEven}
-use Rattle.bfs_liveness.specs.LawsOfExecuting.{HasPlace}
 use Rattle.bfs_liveness.specs.Waiting.{KeepsWaiting}
 use Rattle.bfs_liveness.specs.Ways.{AreFairTo, IsWay}
 
@@ -42,7 +41,7 @@ WindowsAreBounded = (f : ℕ) (keys : Keyring) (start : Beginning) (faulty : ℕ
 abbrev pub CatchingUpProposesNothing : Type 0
 CatchingUpProposesNothing = (keys : Keys) (s : State) (c : StableCheckpoint) → is_shown keys s.f c ≡ true → next_number (installed s c).now ≤ max (next_number s) (c.number + 1)
 
--- where the window of even members is full, there is a way behind which they are even with the number at its end, the primary can propose again, and what waited at
+-- where the window of even members is full, there is a way behind which they are even with the number at its end, the primary has proposed nothing above it, and what waited at
 -- each waits there still, or was executed
 abbrev pub FullWindowsGoOn : Type 0
 FullWindowsGoOn = (f : ℕ) (keys : Keyring) (start : Beginning) (faulty members : ℕ → Bool) (turns : List NodeTurn) (view low : ℕ)
@@ -58,5 +57,5 @@ FullWindowsGoOn = (f : ℕ) (keys : Keyring) (start : Beginning) (faulty members
     × IsARun f keys start faulty (turns ++ way)
     × AreFairTo f keys start faulty members (turns ++ way)
     × AreEven f faulty members (reached f keys start (turns ++ way)) view end
-    × HasPlace end (next_number (order_of (reached f keys start (turns ++ way)) (primary f view)))
+    × (next_number (order_of (reached f keys start (turns ++ way)) (primary f view)) ≤ end + 1)
     × ((k : ℕ) → members k ≡ true → KeepsWaiting (w k) (reached f keys start (turns ++ way) k))

@@ -1,10 +1,9 @@
 -- Members leave for a later view that one of them leads, and enter it together (OSDI 1999 section 4.4).
-use Rattle.std.specs.Prelude.{◌≡◌, ℕ, ◌<◌, ◌≤◌, ◌==◌, Bool, true, ◌&&◌, not, List, [], ◌∷◌, ◌++◌, Option, Some, None, if◌then◌else◌}
+use Rattle.std.specs.Prelude.{◌≡◌, ℕ, ◌<◌, ◌==◌, Bool, true, ◌&&◌, not, List, [], ◌∷◌, ◌++◌, Option, Some, None, if◌then◌else◌}
 use Rattle.bfs_messages.specs.Messages as model
 use Rattle.bfs_messages.specs.Signing.{as_message}
 use Rattle.bfs_messages.specs.declared.message.Message.TheVariants.{NewView, ViewChange}
 use Rattle.bfs_messages.specs.declared.signed.Signed.{Signed}
-use Rattle.bfs_model.specs.Server.Limits.{most_number}
 use Rattle.bfs_votes.specs.Votes.{primary, replicas}
 use Rattle.bfs_node.specs.Nodes.{Node}
 use Rattle.bfs_nodes_agree.specs.Nodes.Replicas.{Beginning, Keyring, NodeReplicas, NodeTurn, after_node_turns}
@@ -12,7 +11,7 @@ use Rattle.bfs_nodes_agree.specs.Nodes.Steps.{LeavesFor, Takes}
 use Rattle.bfs_nodes_progress.specs.Following.{asked_by, each_takes}
 use Rattle.bfs_nodes_progress.specs.Members.{AreTogether}
 use Rattle.bfs_nodes_progress.specs.Runs.{IsARun, reached}
-use Rattle.bfs_liveness.specs.Ways.{IsWay}
+use Rattle.bfs_liveness.specs.Ways.{AllSignIn, IsWay}
 
 -- The way -------------------------------------------------------------------------------------------------------------
 
@@ -52,11 +51,11 @@ meeting f members w view =
 
 -- Where they meet -----------------------------------------------------------------------------------------------------
 
--- one of them leads the view, none has asked for it or for a later one, and there is such a view
+-- one of them leads the view, none has asked for it or for a later one, and all can sign in it
 pub record MayMeetIn (f : ℕ) (members : ℕ → Bool) (w : NodeReplicas) (view : ℕ) : Type 0 where
   pub leads : members (primary f view) ≡ true
   pub later : (k : ℕ) → members k ≡ true → asked_by w k < view
-  pub number : view ≤ most_number
+  pub signed : AllSignIn members w view
 
 -- what waits at a node, and what it has executed, stay
 pub record KeepsWork (node now : Node) : Type 0 where

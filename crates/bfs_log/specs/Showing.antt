@@ -2,6 +2,7 @@
 use Rattle.std.specs.Prelude.{ℕ, ◌==◌, Bool, ◌&&◌, not, List, map, Option, Some, None, nat_lt, if◌then◌else◌}
 use Rattle.std.specs.List.{filter, filter_map, fold}
 use Rattle.std.specs.Option.{option_map}
+use Rattle.bfs_auth.specs.declared.authenticators.Authenticator.{Authenticator}
 use Rattle.bfs_votes.specs.Tags.{checkpoint_tag, pre_prepare_tag}
 use Rattle.bfs_votes.specs.Votes.{Header, prepared, primary, replicas}
 use Rattle.bfs_messages.specs.Messages as model
@@ -16,19 +17,19 @@ use Rattle.bfs_log.specs.Logs.{Log, headers}
 
 -- The messages of a kind, in the order of a log ---------------------------------------------------------------------------
 
-abbrev pub proposal_in : OrderMessage → (auth : List (List ℕ)) → Option (Signed model.PrePrepare)
+abbrev pub proposal_in : OrderMessage → (auth : Authenticator) → Option (Signed model.PrePrepare)
 proposal_in (PrePrepare proposal) auth = Some (record { message = proposal; auth = auth })
 proposal_in (Prepare vote) auth = None
 proposal_in (Commit vote) auth = None
 proposal_in (Checkpoint checkpoint) auth = None
 
-abbrev pub prepare_in : OrderMessage → (auth : List (List ℕ)) → Option (Signed model.Vote)
+abbrev pub prepare_in : OrderMessage → (auth : Authenticator) → Option (Signed model.Vote)
 prepare_in (PrePrepare proposal) auth = None
 prepare_in (Prepare vote) auth = Some (record { message = vote; auth = auth })
 prepare_in (Commit vote) auth = None
 prepare_in (Checkpoint checkpoint) auth = None
 
-abbrev pub checkpoint_in : OrderMessage → (auth : List (List ℕ)) → Option (Signed model.Checkpoint)
+abbrev pub checkpoint_in : OrderMessage → (auth : Authenticator) → Option (Signed model.Checkpoint)
 checkpoint_in (PrePrepare proposal) auth = None
 checkpoint_in (Prepare vote) auth = None
 checkpoint_in (Commit vote) auth = None

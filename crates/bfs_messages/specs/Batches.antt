@@ -3,14 +3,21 @@ use Rattle.std.specs.Prelude.{ℕ, List, ◌++◌, Some, None}
 use Rattle.bfs_model.specs.Bytes.Items.{word, hyper, fixed, counted}
 use Rattle.bfs_model.specs.Bytes.Formats.{list_text}
 use Rattle.bfs_model.specs.Server.Tree.{Time}
+use Rattle.bfs_auth.specs.declared.authenticators.Authenticator.{Authenticator}
+use Rattle.bfs_auth.specs.declared.authenticators.Authenticator.TheVariants.{Hashes, Signature}
 use Rattle.bfs_messages.specs.Messages as model
 use Rattle.bfs_messages.specs.Messages.{Requests, Batch, Vote}
 use Rattle.bfs_messages.specs.declared.signed.Signed.{Signed}
 use Rattle.bfs_votes.specs.Tags.{request_tag}
 
--- keyed hashes
-abbrev pub auth_text : List (List ℕ) → List ℕ
-auth_text auth = list_text fixed auth
+-- what stands in front of a signature, where keyed hashes have their number
+abbrev pub signature_mark : ℕ
+signature_mark = 4294967295
+
+-- an authenticator
+abbrev pub auth_text : Authenticator → List ℕ
+auth_text (Hashes entries) = list_text fixed entries
+auth_text (Signature bytes) = word signature_mark ++ counted bytes
 
 abbrev pub request_text : model.Request → List ℕ
 request_text request = word request.client ++ hyper request.timestamp ++ counted request.call
@@ -24,7 +31,7 @@ checkpoint_text checkpoint = word checkpoint.sender ++ hyper checkpoint.number +
 abbrev pub reply_text : model.Reply → List ℕ
 reply_text reply = word reply.sender ++ hyper reply.view ++ word reply.client ++ hyper reply.timestamp ++ counted reply.result
 
--- what stands behind a message's tag, and its keyed hashes
+-- what stands behind a message's tag, and its authenticator
 abbrev pub behind_text : {A : Type 0} → (A → List ℕ) → Signed A → List ℕ
 behind_text text signed = text signed.message ++ auth_text signed.auth
 

@@ -7,7 +7,7 @@ use Rattle.bfs_messages.specs.Batches.{signed_as, auth_text, vote_text, checkpoi
 use Rattle.bfs_messages.specs.declared.signed.Signed.{Signed}
 use Rattle.bfs_votes.specs.Tags.{checkpoint_tag, pre_prepare_tag, prepare_tag, view_change_tag}
 
--- a PRE-PREPARE's batch follows its keyed hashes, which are of the batch's digest
+-- a PRE-PREPARE's batch follows its authenticator, which is of the batch's digest
 abbrev pub behind_proposal_text : Signed PrePrepare → List ℕ
 behind_proposal_text signed = vote_text signed.message.vote ++ auth_text signed.auth ++ batch_text signed.message.batch
 

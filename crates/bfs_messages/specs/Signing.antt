@@ -25,7 +25,7 @@ sender_of (ViewChange change) = Replica change.sender
 sender_of (NewView new) = Replica new.sender
 sender_of (Reply reply) = Replica reply.sender
 
--- the receiver's own keyed hash is the sender's, of the message's body
+-- the authenticator is the sender's for the message's body, as the receiver sees it
 abbrev pub is_signed : Keys → Signed Message → Bool
 is_signed keys signed = passes keys (sender_of signed.message) (body_text signed.message) signed.auth
 

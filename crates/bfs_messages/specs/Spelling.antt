@@ -38,7 +38,7 @@ order_attached_text (Prepare vote) = []
 order_attached_text (Commit vote) = []
 order_attached_text (Checkpoint checkpoint) = []
 
--- what follows the keyed hashes
+-- what follows the authenticator
 abbrev pub attached_text : Message → List ℕ
 attached_text (Order message) = order_attached_text message
 attached_text (Request request) = []
@@ -46,7 +46,7 @@ attached_text (ViewChange change) = []
 attached_text (NewView new) = []
 attached_text (Reply reply) = []
 
--- a message's body, of which the keyed hashes are made
+-- a message's body, of which the authenticator is made
 abbrev pub body_text : Message → List ℕ
 body_text message = word (tag_of message) ++ fields_text message
 

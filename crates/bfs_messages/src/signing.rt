@@ -1,4 +1,5 @@
-// Messages, signed for all replicas. What is signed is hashed piece by piece, and lies nowhere as a whole.
+// Messages, signed for all replicas: by keyed hashes, or by a signature where the replica has a key and the message is of a place (`bfs_auth::Place`). What is signed is hashed
+// piece by piece, and lies nowhere as a whole.
 ghost use Rattle.std.specs.Prelude.{◌≡◌, ◌++◌, IfOk};
 ghost use Rattle.bfs_auth.specs.Authenticators.{signature};
 ghost use Rattle.bfs_model.specs.Bytes.Items.{word};
@@ -8,16 +9,15 @@ ghost use Rattle.bfs_messages.specs.Signing.{order_signed_by, signed_by};
 ghost use Rattle.bfs_messages.specs.Spelling.{body_text, order_body_text};
 ghost use Rattle.bfs_votes.specs.Tags.{checkpoint_tag, new_view_tag, pre_prepare_tag, prepare_tag, view_change_tag};
 
+use crate::bodies::{Body, of_checkpoint, of_new_view, of_view_change, of_vote};
 use crate::changes::{NewView, ViewChange};
 use crate::message::Message;
 use crate::order_messages::OrderMessage;
-use crate::parts::Part;
 use crate::proposals::PrePrepare;
 use crate::signed::Signed;
-use crate::tags::{CHECKPOINT_TAG, NEW_VIEW_TAG, PRE_PREPARE_TAG, PREPARE_TAG, VIEW_CHANGE_TAG};
 use crate::votes::{Checkpoint, Vote};
-use crate::writing::{put_body, put_order_body, put_tagged};
-use bfs_auth::{Authenticator, Keys, Text, sign_text};
+use crate::writing::{put_body, put_order_body};
+use bfs_auth::{Keys, Place, Text, sign_text};
 use bfs_types::Memory;
 use sha2::Sha256;
 use std::alloc::Global;
@@ -31,6 +31,17 @@ impl Text for Message {
             Err(never) => match never {},
         }
     }
+
+    #[tactic(auto, using(crate::proofs::Places::request_place, crate::proofs::Places::reply_place, crate::proofs::Places::view_change_place, crate::proofs::Places::new_view_place))]
+    fn place(&self) -> Option<Place> {
+        match self {
+            Message::Request(_) => None,
+            Message::Order(message) => message.place(),
+            Message::ViewChange(change) => Some(of_view_change(change)),
+            Message::NewView(new) => Some(of_new_view(new)),
+            Message::Reply(_) => None,
+        }
+    }
 }
 
 impl Text for OrderMessage {
@@ -42,22 +53,14 @@ impl Text for OrderMessage {
             Err(never) => match never {},
         }
     }
-}
 
-/// What is signed of a message: its tag, and what stands behind it.
-#[derive(Drop)]
-pub(crate) struct Body<'a, T> {
-    pub(crate) tag: u32,
-    pub(crate) fields: &'a T,
-}
-
-impl<'a, T: Part> Text for Body<'a, T> {
-    ghost text = { λ body. word body.tag ++ T.text body.fields.now };
-
-    fn hash(&self, hasher: &mut Sha256) {
-        match put_tagged(self.tag, self.fields, hasher) {
-            Ok(()) => (),
-            Err(never) => match never {},
+    #[tactic(auto, using(crate::proofs::Places::commit_place, crate::proofs::Places::pre_prepare_place, crate::proofs::Places::prepare_place, crate::proofs::Places::checkpoint_place))]
+    fn place(&self) -> Option<Place> {
+        match self {
+            OrderMessage::PrePrepare(proposal) => Some(of_vote(proposal.vote())),
+            OrderMessage::Prepare(vote) => Some(of_vote(vote)),
+            OrderMessage::Commit(_) => None,
+            OrderMessage::Checkpoint(checkpoint) => Some(of_checkpoint(checkpoint)),
         }
     }
 }
@@ -86,7 +89,7 @@ pub fn sign_order(
 pub fn sign_prepare(alloc: Global, keys: &Keys, vote: Vote) -> Result<Signed<Vote>, Memory>
     ensures { IfOk result (λ signed. signed ≡ record { message = vote; auth = signature keys.now (word prepare_tag ++ vote_text vote) }) }
 {
-    let auth = sign_fields(alloc, keys, PREPARE_TAG, &vote)?;
+    let auth = sign_text(alloc, keys, &Body::Prepare(&vote))?;
     Ok(Signed {
         message: vote,
         auth,
@@ -101,7 +104,7 @@ pub fn sign_proposal(
 ) -> Result<Signed<PrePrepare>, Memory>
     ensures { IfOk result (λ signed. signed ≡ record { message = proposal; auth = signature keys.now (word pre_prepare_tag ++ vote_text proposal.vote) }) }
 {
-    let auth = sign_fields(alloc, keys, PRE_PREPARE_TAG, proposal.vote())?;
+    let auth = sign_text(alloc, keys, &Body::PrePrepare(proposal.vote()))?;
     Ok(Signed {
         message: proposal,
         auth,
@@ -116,7 +119,7 @@ pub fn sign_checkpoint(
 ) -> Result<Signed<Checkpoint>, Memory>
     ensures { IfOk result (λ signed. signed ≡ record { message = checkpoint; auth = signature keys.now (word checkpoint_tag ++ checkpoint_text checkpoint) }) }
 {
-    let auth = sign_fields(alloc, keys, CHECKPOINT_TAG, &checkpoint)?;
+    let auth = sign_text(alloc, keys, &Body::Checkpoint(&checkpoint))?;
     Ok(Signed {
         message: checkpoint,
         auth,
@@ -131,7 +134,7 @@ pub fn sign_view_change(
 ) -> Result<Signed<ViewChange>, Memory>
     ensures { IfOk result (λ signed. signed ≡ record { message = change; auth = signature keys.now (word view_change_tag ++ view_change_text change) }) }
 {
-    let auth = sign_fields(alloc, keys, VIEW_CHANGE_TAG, &change)?;
+    let auth = sign_text(alloc, keys, &Body::ViewChange(&change))?;
     Ok(Signed {
         message: change,
         auth,
@@ -142,17 +145,6 @@ pub fn sign_view_change(
 pub fn sign_new_view(alloc: Global, keys: &Keys, new: NewView) -> Result<Signed<NewView>, Memory>
     ensures { IfOk result (λ signed. signed ≡ record { message = new; auth = signature keys.now (word new_view_tag ++ new_view_text new) }) }
 {
-    let auth = sign_fields(alloc, keys, NEW_VIEW_TAG, &new)?;
+    let auth = sign_text(alloc, keys, &Body::NewView(&new))?;
     Ok(Signed { message: new, auth })
-}
-
-fn sign_fields<T: Part>(
-    alloc: Global,
-    keys: &Keys,
-    tag: u32,
-    fields: &T,
-) -> Result<Authenticator, Memory>
-    ensures { IfOk result (λ auth. auth ≡ signature keys.now (word tag ++ T.text fields.now)) }
-{
-    sign_text(alloc, keys, &Body { tag, fields })
 }

@@ -20,7 +20,7 @@ use bfs_types::Memory;
 use bfs_xdr::Sink;
 use std::alloc::Global;
 
-/// Writes a message and its keyed hashes behind the bytes that are there. `Memory` if memory runs out.
+/// Writes a message and its authenticator behind the bytes that are there. `Memory` if memory runs out.
 pub fn put_message(bytes: &mut Vec<u8>, signed: &Signed<Message>) -> Result<(), Memory>
     ensures text { OnOk result (bytes.new.items ≡ bytes.old.items ++ signed_text signed.now) }
     ensures fits { OnOk result (FitsSigned FitsMessage signed.now) }
@@ -86,7 +86,7 @@ pub(crate) fn put_tagged<T: Part, S: Sink>(
     fields.put(out)
 }
 
-// what follows the keyed hashes
+// what follows the authenticator
 fn put_attached<S: Sink>(message: &Message, out: &mut S) -> Result<(), S::Error>
     ensures text { OnOk result (Takes S.holds out.old out.new (attached_text message.now)) }
     ensures fits { OnOk result (FieldsFit message.now → FitsMessage message.now) }

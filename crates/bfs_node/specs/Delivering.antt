@@ -29,7 +29,7 @@ use Rattle.bfs_node.specs.declared.error.NodeError.TheVariants as error
 abbrev pub request_in : Signed Message → model.Request → Signed model.Request
 request_in signed request = record { message = request; auth = signed.auth }
 
--- of a client whose keyed hash is not right, or one too many
+-- that is not its client's, or one too many
 abbrev pub request_refusal : Node → Signed model.Request → Option NodeError
 request_refusal node request =
     if not (request_is_signed node.keys request) then Some error.BadAuthenticator else

@@ -5,6 +5,7 @@ use Rattle.std.specs.Option.{ForSome, option_map}
 use Rattle.bfs_model.specs.Server.Tree.{FileSystem}
 use Rattle.bfs_auth.specs.Authenticators.{signature_for_client}
 use Rattle.bfs_auth.specs.Keys.{Keys}
+use Rattle.bfs_auth.specs.declared.authenticators.Authenticator.{Authenticator}
 use Rattle.bfs_log.specs.Batches.{Committed}
 use Rattle.bfs_messages.specs.Messages as model
 use Rattle.bfs_messages.specs.Spelling.{body_text}
@@ -26,7 +27,7 @@ use Rattle.bfs_node.specs.Nodes.{Messages, Node, Outcome}
 abbrev pub reply_to : State → Answer → model.Reply
 reply_to state answer = record { sender = state.me; view = state.view; client = answer.client; timestamp = answer.timestamp; result = answer.reply }
 
-abbrev pub signed_reply : model.Reply → (auth : List (List ℕ)) → Signed Message
+abbrev pub signed_reply : model.Reply → (auth : Authenticator) → Signed Message
 signed_reply reply auth = record { message = Reply reply; auth = auth }
 
 -- with a keyed hash for that client alone

@@ -12,8 +12,8 @@ ghost use Rattle.bfs_node.specs.declared.error.NodeError.TheVariants as error;
 
 use crate::error::NodeError;
 use crate::node::Node;
-use bfs_auth::{Authenticator, Keys, least_items};
-use bfs_messages::{HashedBatch, Message, OrderedBatch, Request, Signed, is_signed};
+use bfs_auth::{Authenticator, Checker, Keys, least_checked, least_items};
+use bfs_messages::{HashedBatch, Message, OrderedBatch, Request, Signed, is_signed_by};
 use bfs_types::{MOST_REQUESTS, Memory, Time, TryClone};
 use rayon::join_mut;
 use rayon::prelude::*;
@@ -112,7 +112,7 @@ impl Node {
         ensures { IfOk result (λ found. IfSome found (λ batch. HasAll self.now messages.now (arc_value batch))) }
     {
         if self.order.proposal_refusal().is_some()
-            || messages.len() < least_items(messages, call_length)
+            || messages.len() < least_items(messages, bytes_to_hash)
             || messages.len() > MOST_REQUESTS - self.pending.len() as usize
         {
             return Ok(None);
@@ -191,18 +191,20 @@ fn are_signed<R: Threads + Sync>(
 {
     messages
         .par_iter()
-        .with_min_len(least_items(messages, call_length))
-        .map(
-            |signed: &Signed<Message>| -> bool
+        .with_min_len(least_checked(messages, bytes_to_hash))
+        .map_init(
+            Checker::new,
+            |checker: &mut Checker, signed: &Signed<Message>| -> bool
                 ensures { result ≡ is_signed keys.entry.now signed.now }
-            { is_signed(keys, signed) },
+            { is_signed_by(checker, keys, signed) },
         )
         .collect(rt, alloc)
 }
 
-fn call_length(signed: &Signed<Message>) -> usize {
-    match &signed.message {
+fn bytes_to_hash(signed: &Signed<Message>) -> usize {
+    let call = match &signed.message {
         Message::Request(request) => request.call().len(),
         _ => 0,
-    }
+    };
+    call + signed.auth.bytes_to_hash()
 }

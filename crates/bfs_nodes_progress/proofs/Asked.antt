@@ -1,6 +1,7 @@
 -- What a step makes of the views that senders are known to ask for.
 use Rattle.std.proofs.Common.{◌≡◌, ℕ, true, false, cond, ◌&&◌, List, [], ◌∷◌, slice_set, ◌⊎◌, Option, Some, None, option_map, bytes_eq, inl, inr, refl, ap, ◌∙◌}
 use Rattle.bfs_auth.specs.Keys.{Keys}
+use Rattle.bfs_auth.specs.declared.authenticators.Authenticator.{Authenticator}
 use Rattle.bfs_checkpoints.specs.Texts.{node_digest}
 use Rattle.bfs_codec.specs.Reading.{message_of}
 use Rattle.bfs_log.specs.Certificates.{StableCheckpoint}
@@ -106,7 +107,7 @@ came_as node now Came Other on marks = elim marks as (λ _. Marks node Other now
   ]
 ]
 
-message_marks : (node : Node) (m : Message) (auth : List (List ℕ)) → let signed : Signed Message = record { message = m; auth = auth } in
+message_marks : (node : Node) (m : Message) (auth : Authenticator) → let signed : Signed Message = record { message = m; auth = auth } in
     Marks node (λ s. signed ≡ as_message ViewChange s) (outcome node (Takes signed)).now
 message_marks node (Request request) auth =
     let signed : Signed Message = record { message = Request request; auth = auth } in

@@ -5,6 +5,7 @@ use Rattle.std.specs.List.{list_any}
 use Rattle.std.proofs.lemmas.Bool.{cond_both}
 use Rattle.std.proofs.lemmas.List.{length-replicate}
 use Rattle.bfs_auth.specs.Keys.{Keys}
+use Rattle.bfs_auth.specs.declared.authenticators.Authenticator.{Authenticator}
 use Rattle.bfs_checkpoints.specs.Texts.{node_digest}
 use Rattle.bfs_codec.specs.Reading.{message_of}
 use Rattle.bfs_log.specs.Batches.{Committed}
@@ -169,7 +170,7 @@ module _ (f : ℕ) where
 
   -- A message comes -----------------------------------------------------------------------------------------------------
 
-  message_does : (node : Node) → HoldsBytes f node → (m : Message) (auth : List (List ℕ)) → MessageIsOfBytes m
+  message_does : (node : Node) → HoldsBytes f node → (m : Message) (auth : Authenticator) → MessageIsOfBytes m
       → Does node.order node.files node.table (message_deeds node (record { message = m; auth = auth }) m)
       (unless (message_refusal node (record { message = m; auth = auth }) m) node (message_delivered node (record { message = m; auth = auth }) m)).now
   message_does node holds (Request request) auth is =

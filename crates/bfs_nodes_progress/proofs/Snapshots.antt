@@ -2,6 +2,7 @@
 use Rattle.std.proofs.Common.{◌≡◌, ℕ, ◌<◌, ◌==◌, Bool, true, false, cond, ◌&&◌, not, List, [], ◌∷◌, ◌++◌, max, filter, ◌⊎◌, Option, Some, None, option_map, bytes_eq, inl, inr, refl, sym, ap, subst, ◌∙◌, arith}
 use Rattle.std.specs.Prelude.{is_some, nat_le, nat_lt}
 use Rattle.std.proofs.lemmas.Bool.{and_parts, cond_both, eqb-true, ltb-true, or_cases}
+use Rattle.bfs_auth.specs.declared.authenticators.Authenticator.{Authenticator}
 use Rattle.bfs_checkpoints.specs.Certificates.{told_checkpoint}
 use Rattle.bfs_checkpoints.specs.Keeping.{Keeping, Kept, settled, settles, with_snapshot}
 use Rattle.bfs_checkpoints.specs.Snapshots.{snapshot_of}
@@ -106,7 +107,7 @@ change_keeps node s =
 leaves_keeps : (node : Node) (view : ℕ) → AreFrom node.snapshots (outcome node (LeavesFor view)).now.snapshots
 leaves_keeps node view = if_keeps node (leaving_refusal node view) (left_for node view) (change_keeps (record node { order = (left node.order view).now }) (own_change node view))
 
-message_keeps : (node : Node) (m : Message) (auth : List (List ℕ)) → AreFrom node.snapshots (outcome node (Takes (record { message = m; auth = auth }))).now.snapshots
+message_keeps : (node : Node) (m : Message) (auth : Authenticator) → AreFrom node.snapshots (outcome node (Takes (record { message = m; auth = auth }))).now.snapshots
 message_keeps node (Request request) auth =
     let signed : Signed Message = record { message = Request request; auth = auth } in
     if_keeps node (request_refusal node (request_in signed request)) (with_request node (request_in signed request)) (λ x i. i)

@@ -1,24 +1,21 @@
 -- A result that a client accepts was sent by a correct replica.
 use Rattle.std.proofs.Common.{◌≡◌, ◌≢◌, ◌∙◌, ℕ, zero, suc, ◌+◌, ◌<◌, ◌≤◌, Bool, true, false, cond, ◌&&◌, not, List, [], ◌∷◌, ◌++◌, ◌⊎◌, length, Some, None, Option, option_map, inl, inr, refl, sym, ap, subst, arith}
 use Rattle.std.specs.Prelude.{◌==◌, bytes_eq, fold}
-use Rattle.std.specs.List.{count_by, find, slice_get}
+use Rattle.std.specs.List.{count_by, find}
 use Rattle.std.proofs.lemmas.Bool.{and_parts, cases_Bool, cases_eq, cases_lt, cond_both, eq-eqb, eqb-true, leb-true}
 use Rattle.std.proofs.lemmas.List.Sums.{sum_by-cons}
-use Rattle.std.proofs.lemmas.Option.{slice_get_within}
 use Rattle.std.proofs.lemmas.Slice.Eq.{bytes_eq-Decides}
 use Rattle.bfs_votes.specs.Votes.{count_below}
-use Rattle.bfs_auth.specs.Authenticators.{entry_for, is_hash}
 use Rattle.bfs_auth.specs.Keys.{Keys}
-use Rattle.bfs_auth.specs.declared.pairwise.SharedKeys.{SharedKeys}
 use Rattle.bfs_messages.specs.Messages as model
 use Rattle.bfs_messages.specs.Signing.{is_signed}
-use Rattle.bfs_messages.specs.Spelling.{body_text}
 use Rattle.bfs_messages.specs.declared.signed.Signed.{Signed}
 use Rattle.bfs_messages.specs.declared.message.Message.{Message}
 use Rattle.bfs_messages.specs.declared.message.Message.TheVariants.{Reply}
 use Rattle.bfs_agreement.specs.Histories.{IsIn}
 use Rattle.bfs_clients.specs.Clients.{Clients, keys_at}
 use Rattle.bfs_clients.specs.Tallies.{Counted, Tally, agreed, has_counted, is_agreed, is_signed_by, is_wanted, no_replies, reply_is_signed, result_to, senders_of, tallied_as, tallied_by, tally_of, with_reply}
+use Rattle.bfs_clients.proofs.Public.{sender_below}
 use Rattle.bfs_nodes_agree.proofs.Public.{AllIn, any_in, both_in, found, more_in, none_in, one_in, some_is}
 
 -- Counting senders ----------------------------------------------------------------------------------------------------------
@@ -203,14 +200,6 @@ agreed_so tally r e = go (find (is_agreed tally) tally.counted) refl e
     go (Some one) is h =
         let enough = leb-true (tally.f + 1) (senders_of tally.counted one.result) (found (is_agreed tally) tally.counted one is).1 in
         subst (λ (x : List ℕ). tally.f + 1 ≤ senders_of tally.counted x) (some_is one.result r h) enough
-
--- who shares a key with a client has a number among the replicas
-sender_below : (keys : Keys) (m : Signed Message) (reply : model.Reply) → m.message ≡ Reply reply → is_signed keys m ≡ true → reply.sender < length keys.replicas
-sender_below keys m reply is signed = go (slice_get keys.replicas reply.sender) refl (sym (ap (λ (x : Message). is_signed keys (record { message = x; auth = m.auth })) is) ∙ signed)
-  where
-    go : (o : Option SharedKeys) → slice_get keys.replicas reply.sender ≡ o → is_hash o (body_text (Reply reply)) (entry_for keys.me m.auth) ≡ true → reply.sender < length keys.replicas
-    go None e h = absurd cc
-    go (Some shared) e h = slice_get_within keys.replicas reply.sender shared e
 
 -- a message that came is a correct replica's REPLY with that result
 pub record FromCorrect (faulty : ℕ → Bool) (clients : Clients) (c t : ℕ) (r : List ℕ) (messages : List (Signed Message)) : Type 0 where

@@ -2,6 +2,7 @@
 use Rattle.std.specs.Prelude.{◌≡◌, ℕ, List, [], ◌∷◌, Some, None}
 use Rattle.bfs_model.specs.Server.Serial.{answer, effective_time}
 use Rattle.bfs_model.specs.Server.Tree.{FileSystem, Time}
+use Rattle.bfs_auth.specs.declared.authenticators.Authenticator.TheVariants.{Hashes}
 use Rattle.bfs_messages.specs.Messages.{Batch, Request}
 use Rattle.bfs_messages.specs.declared.signed.Signed.{Signed}
 use Rattle.bfs_outcome.specs.Outcome.{answer_to, outcome}
@@ -11,7 +12,7 @@ abbrev request_at : (timestamp : ℕ) → (call : List ℕ) → Request
 request_at timestamp call = record { client = 0; timestamp = timestamp; call = call }
 
 abbrev signed : Request → Signed Request
-signed request = record { message = request; auth = [] }
+signed request = record { message = request; auth = Hashes [] }
 
 abbrev batch_of : Time → Request → Request → Batch
 batch_of time one other = Some (record { time = time; requests = signed one ∷ signed other ∷ [] })

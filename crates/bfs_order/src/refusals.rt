@@ -118,7 +118,7 @@ impl Order {
         is_order_signed(keys, signed) && are_carried_signed(rt, keys, passed, &signed.message)
     }
 
-    /// Why a message is not taken, if it isn't: what `on_message` refuses it with, in the same order. Its keyed hashes are looked at before
+    /// Why a message is not taken, if it isn't: what `on_message` refuses it with, in the same order. Its authenticator is looked at before
     /// the log is. It takes no memory.
     pub fn refusal(
         &self,

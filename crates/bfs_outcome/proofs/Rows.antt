@@ -5,6 +5,7 @@ use Rattle.bfs_model.specs.Server.Tree.{new_file_system, new_tree}
 use Rattle.bfs_model.specs.Bytes.Call.{call_of, header_of, opaque_auth_at, credential_of}
 use Rattle.bfs_model.specs.Bytes.Replies.{refusal}
 use Rattle.bfs_model.specs.Server.Serial.{answer}
+use Rattle.bfs_auth.specs.declared.authenticators.Authenticator.TheVariants.{Hashes}
 use Rattle.bfs_messages.specs.Messages.{Request, Requests}
 use Rattle.bfs_messages.specs.declared.signed.Signed.{Signed}
 use Rattle.bfs_replies.specs.Answers.{Answer}
@@ -19,7 +20,7 @@ abbrev refused : (xid : ℕ) → List ℕ
 refused xid = words (xid ∷ 1 ∷ 1 ∷ 0 ∷ 2 ∷ 2 ∷ [])
 
 abbrev sent : (client timestamp xid : ℕ) → Signed Request
-sent client timestamp xid = record { message = record { client = client; timestamp = timestamp; call = asked xid }; auth = [] }
+sent client timestamp xid = record { message = record { client = client; timestamp = timestamp; call = asked xid }; auth = Hashes [] }
 
 abbrev got : (client timestamp xid : ℕ) → Answer
 got client timestamp xid = record { client = client; timestamp = timestamp; reply = refused xid }

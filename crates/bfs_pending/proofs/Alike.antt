@@ -7,18 +7,28 @@ use Rattle.std.proofs.lemmas.List.Folds.{list_all-append}
 use Rattle.std.proofs.lemmas.Option.{same_Some}
 use Rattle.std.proofs.lemmas.Slice.Eq.{bytes_eq-Decides}
 use Rattle.bfs_model.specs.Bytes.Items.{word, hyper, counted}
-use Rattle.bfs_auth.specs.Authenticators.{entry_for, is_hash}
-use Rattle.bfs_auth.specs.Keys.{Keys, shared_with}
+use Rattle.bfs_auth.specs.Authenticators.{entry_at, entry_for, is_right, passes, signature_in}
+use Rattle.bfs_auth.specs.Keys.{Keys, public_key_of, shared_with}
+use Rattle.bfs_auth.specs.declared.authenticators.Authenticator.{Authenticator}
+use Rattle.bfs_auth.specs.declared.authenticators.Authenticator.TheVariants.{Hashes, Signature}
+use Rattle.bfs_auth.specs.declared.principals.Principal.{Principal}
 use Rattle.bfs_auth.specs.declared.principals.Principal.TheVariants.{Client}
 use Rattle.bfs_messages.specs.Messages.{Request}
 use Rattle.bfs_messages.specs.Signing.{request_is_signed}
 use Rattle.bfs_messages.specs.declared.signed.Signed.{Signed}
-use Rattle.bfs_pending.specs.Passed.{HavePassed, are_equal, is_alike, is_alike_to, last_same, later, waits}
+use Rattle.bfs_pending.specs.Passed.{HavePassed, are_equal, is_alike, is_alike_to, is_read_alike, last_same, later, waits}
 use Rattle.bfs_pending.specs.Requests.{is_same}
 
 -- what the check reads of a request
-read : Keys → (client timestamp : ℕ) → (call : List ℕ) → (entry : Option (List ℕ)) → Bool
-read keys client timestamp call entry = is_hash (shared_with keys (Client client)) (word 1 ++ (word client ++ hyper timestamp ++ counted call)) entry
+read : Keys → (client timestamp : ℕ) → (call : List ℕ) → (entry signature : Option (List ℕ)) → Bool
+read keys client timestamp call entry signature =
+    let text = word 1 ++ (word client ++ hyper timestamp ++ counted call) in
+    is_right (public_key_of keys (Client client) text) (shared_with keys (Client client)) text entry signature
+
+request_read : (keys : Keys) (one : Signed Request) → request_is_signed keys one
+    ≡ read keys one.message.client one.message.timestamp one.message.call (entry_for keys.me one.auth) (signature_in one.auth)
+unfolding passes read
+request_read keys one = refl
 
 equal_entries : (one other : Option (List ℕ)) → are_equal one other ≡ true → one ≡ other
 equal_entries (Some one) (Some other) same = ap (λ (entry : List ℕ). Some entry) ((bytes_eq-Decides one other).0 same)
@@ -26,20 +36,31 @@ equal_entries (Some one) None same = absurd (false≢true same)
 equal_entries None (Some other) same = absurd (false≢true same)
 equal_entries None None same = absurd (false≢true same)
 
+equal_reading : (receiver : Principal) (one other : Authenticator) → is_read_alike receiver one other ≡ true
+    → (entry_for receiver one ≡ entry_for receiver other) × (signature_in one ≡ signature_in other)
+equal_reading receiver (Hashes one) (Hashes other) same = (equal_entries (entry_at receiver one) (entry_at receiver other) same, refl)
+equal_reading receiver (Signature one) (Signature other) same = (refl, ap (λ (bytes : List ℕ). Some bytes) ((bytes_eq-Decides one other).0 same))
+equal_reading receiver (Hashes one) (Signature other) same = absurd (false≢true same)
+equal_reading receiver (Signature one) (Hashes other) same = absurd (false≢true same)
+
 alike_passes : (keys : Keys) (one other : Signed Request) → is_alike keys.me one other ≡ true → request_is_signed keys one ≡ true → request_is_signed keys other ≡ true
-unfolding read
 alike_passes keys one other alike passed =
     let x : Request = one.message in
     let y : Request = other.message in
-    let entries : Bool = are_equal (entry_for keys.me one.auth) (entry_for keys.me other.auth) in
-    let parts = and_parts (is_same one other) (bytes_eq x.call y.call && entries) alike in
+    let reading : Bool = is_read_alike keys.me one.auth other.auth in
+    let parts = and_parts (is_same one other) (bytes_eq x.call y.call && reading) alike in
     let names = and_parts (x.client == y.client) (x.timestamp == y.timestamp) parts.0 in
-    let rest = and_parts (bytes_eq x.call y.call) entries parts.1 in
-    sym (ap (λ (client : ℕ). read keys client x.timestamp x.call (entry_for keys.me one.auth)) (eqb-true x.client y.client names.0)
-    ∙ ap (λ (timestamp : ℕ). read keys y.client timestamp x.call (entry_for keys.me one.auth)) (eqb-true x.timestamp y.timestamp names.1)
-    ∙ ap (λ (call : List ℕ). read keys y.client y.timestamp call (entry_for keys.me one.auth)) ((bytes_eq-Decides x.call y.call).0 rest.0)
-    ∙ ap (λ (entry : Option (List ℕ)). read keys y.client y.timestamp y.call entry) (equal_entries (entry_for keys.me one.auth) (entry_for keys.me other.auth) rest.1))
-    ∙ passed
+    let rest = and_parts (bytes_eq x.call y.call) reading parts.1 in
+    let auths = equal_reading keys.me one.auth other.auth rest.1 in
+    let entry = entry_for keys.me one.auth in
+    let signature = signature_in one.auth in
+    request_read keys other
+    ∙ sym (ap (λ (client : ℕ). read keys client x.timestamp x.call entry signature) (eqb-true x.client y.client names.0)
+    ∙ ap (λ (timestamp : ℕ). read keys y.client timestamp x.call entry signature) (eqb-true x.timestamp y.timestamp names.1)
+    ∙ ap (λ (call : List ℕ). read keys y.client y.timestamp call entry signature) ((bytes_eq-Decides x.call y.call).0 rest.0)
+    ∙ ap (λ (e : Option (List ℕ)). read keys y.client y.timestamp y.call e signature) auths.0
+    ∙ ap (λ (s : Option (List ℕ)). read keys y.client y.timestamp y.call (entry_for keys.me other.auth) s) auths.1)
+    ∙ sym (request_read keys one) ∙ passed
 
 -- the last one of a client and timestamp is one of them
 last_step : (test : Signed Request → Bool) (one other : Signed Request) (found : Option (Signed Request)) (same : Bool) → test other ≡ true

@@ -1,8 +1,10 @@
 -- Requests that wait have passed: one that is alike to the holder of the keys is not checked again.
 use Rattle.std.specs.Prelude.{◌≡◌, ℕ, Bool, true, false, ◌&&◌, List, [], ◌∷◌, Option, Some, None, bytes_eq, if◌then◌else◌}
 use Rattle.std.specs.List.{list_all}
-use Rattle.bfs_auth.specs.Authenticators.{entry_for}
+use Rattle.bfs_auth.specs.Authenticators.{entry_at}
 use Rattle.bfs_auth.specs.Keys.{Keys}
+use Rattle.bfs_auth.specs.declared.authenticators.Authenticator.{Authenticator}
+use Rattle.bfs_auth.specs.declared.authenticators.Authenticator.TheVariants.{Hashes, Signature}
 use Rattle.bfs_auth.specs.declared.principals.Principal.{Principal}
 use Rattle.bfs_messages.specs.Messages.{Request}
 use Rattle.bfs_messages.specs.Signing.{request_is_signed}
@@ -18,10 +20,17 @@ are_equal (Some one) (Some other) = bytes_eq one other
 are_equal (Some _) None = false
 are_equal None _ = false
 
--- in all that a receiver reads to check them: what is asked for, and its own keyed hash
+-- in all that a receiver reads of them: its own keyed hash, or the whole signature
+abbrev pub is_read_alike : (receiver : Principal) → Authenticator → Authenticator → Bool
+is_read_alike receiver (Hashes one) (Hashes other) = are_equal (entry_at receiver one) (entry_at receiver other)
+is_read_alike receiver (Signature one) (Signature other) = bytes_eq one other
+is_read_alike receiver (Hashes _) (Signature _) = false
+is_read_alike receiver (Signature _) (Hashes _) = false
+
+-- in all that a receiver reads to check them: what is asked for, and what it reads of the authenticators
 abbrev pub is_alike : (receiver : Principal) → Signed Request → Signed Request → Bool
 is_alike receiver one other =
-    is_same one other && (bytes_eq one.message.call other.message.call && are_equal (entry_for receiver one.auth) (entry_for receiver other.auth))
+    is_same one other && (bytes_eq one.message.call other.message.call && is_read_alike receiver one.auth other.auth)
 
 abbrev pub later : Option (Signed Request) → Option (Signed Request) → Option (Signed Request)
 later None first = first

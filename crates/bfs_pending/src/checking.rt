@@ -3,22 +3,36 @@ ghost use Rattle.std.specs.Prelude.{◌≡◌, true};
 ghost use Rattle.std.specs.List.{list_all};
 ghost use Rattle.std.specs.Option.{option_map};
 ghost use Rattle.bfs_messages.specs.Signing.{request_is_signed, requests_are_signed};
-ghost use Rattle.bfs_pending.specs.Passed.{HavePassed, are_equal, is_alike, waits};
+ghost use Rattle.bfs_pending.specs.Passed.{HavePassed, are_equal, is_alike, is_read_alike, waits};
 
 use crate::waiting::PendingRequests;
-use bfs_auth::{Keys, Principal, least_items};
-use bfs_messages::{OrderedBatch, Request, Signed, is_request_signed};
+use bfs_auth::{Authenticator, Checker, Keys, Principal, least_checked};
+use bfs_messages::{OrderedBatch, Request, Signed, is_request_signed_by};
 use rayon::prelude::*;
 use std::thread::Threads;
 
-/// Whether two requests ask for the same, with the same entry for a receiver.
+/// Whether two requests ask for the same, with authenticators that are the same to a receiver.
 pub(crate) fn is_alike(receiver: Principal, one: &Signed<Request>, other: &Signed<Request>) -> bool
     ensures { result ≡ is_alike receiver one.now other.now }
 {
     (one.message.client() == other.message.client()
         && one.message.timestamp() == other.message.timestamp())
         && (one.message.call() == other.message.call()
-            && are_equal(one.auth.entry_for(receiver), other.auth.entry_for(receiver)))
+            && is_read_alike(receiver, &one.auth, &other.auth))
+}
+
+fn is_read_alike(receiver: Principal, one: &Authenticator, other: &Authenticator) -> bool
+    ensures { result ≡ is_read_alike receiver one.now other.now }
+{
+    match (one, other) {
+        (Authenticator::Hashes(one), Authenticator::Hashes(other)) => {
+            are_equal(one.entry_for(receiver), other.entry_for(receiver))
+        }
+        (Authenticator::Signature(one), Authenticator::Signature(other)) => {
+            one.as_slice() == other.as_slice()
+        }
+        _ => false,
+    }
 }
 
 fn are_equal(one: Option<&[u8; 32]>, other: Option<&[u8; 32]>) -> bool
@@ -60,19 +74,34 @@ fn are_all_signed(
 {
     requests
         .par_iter()
-        .with_min_len(least_items(requests, |signed| signed.message.call().len()))
-        .all(
-            rt,
-            |signed: &Signed<Request>| -> bool
+        .with_min_len(least_checked(requests, bytes_to_hash))
+        .map_init(
+            Checker::new,
+            |checker: &mut Checker, signed: &Signed<Request>| -> bool
                 requires { HavePassed keys.now waiting.now }
                 ensures { result ≡ request_is_signed keys.entry.now signed.now }
-            { is_signed(keys, waiting, signed) },
+            { is_signed(checker, keys, waiting, signed) },
+        )
+        .all(
+            rt,
+            |answer: bool| -> bool
+                ensures { result ≡ answer }
+            { answer },
         )
 }
 
-fn is_signed(keys: &Keys, waiting: &PendingRequests, signed: &Signed<Request>) -> bool
+fn bytes_to_hash(signed: &Signed<Request>) -> usize {
+    signed.message.call().len() + signed.auth.bytes_to_hash()
+}
+
+fn is_signed(
+    checker: &mut Checker,
+    keys: &Keys,
+    waiting: &PendingRequests,
+    signed: &Signed<Request>,
+) -> bool
     requires { HavePassed keys.now waiting.now }
     ensures { result ≡ request_is_signed keys.now signed.now }
 {
-    waiting.waits(keys.me(), signed) || is_request_signed(keys, signed)
+    waiting.waits(keys.me(), signed) || is_request_signed_by(checker, keys, signed)
 }

@@ -4,6 +4,9 @@ use Rattle.std.specs.Prelude.{bytes_eq, max, nat_lt, not}
 use Rattle.std.proofs.lemmas.Bool.{and_parts, ltb-true}
 use Rattle.bfs_auth.specs.Authenticators.{signature_for_client}
 use Rattle.bfs_auth.specs.Keys.{Keys}
+use Rattle.bfs_auth.specs.declared.authenticators.Authenticator.{Authenticator}
+use Rattle.bfs_auth.specs.declared.places.Place.{Place}
+use Rattle.bfs_auth.specs.declared.places.Place.TheVariants.{Checkpoint, NewView, ViewChange, Vote}
 use Rattle.bfs_model.specs.Server.Limits.{checkpoint_interval}
 use Rattle.bfs_model.specs.Server.Tree.{FileSystem}
 use Rattle.bfs_checkpoints.specs.Snapshots.{snapshot_of}
@@ -54,7 +57,7 @@ use Rattle.bfs_node.specs.declared.offering.Offered.TheVariants.{Waits, WaitsAlr
 use Rattle.bfs_nodes_agree.specs.Orders.Replicas.{votes_by}
 use Rattle.bfs_nodes_agree.specs.Nodes.Steps.{NodeStep, Delivers, Takes, TakesRequests, TakesOffered, Proposes, Executes, Fails, Checkpoints, TimesOut, LeavesFor, ForgetsAnswered, ForgetsProposed, Adopts, Settles, after_execution, or_still, outcome, still, unless}
 use Rattle.bfs_nodes_agree.proofs.Public.{AllIn, IsBounded, begins_open, left_bounded, map_in, more_in, none_in, not_refused, not_second, one_in, out_of_filter_map, reply_is, some_is, votes_own}
-use Rattle.bfs_places.specs.Places.{Checkpoint, NewView, Place, ViewChange, Vote, place_of}
+use Rattle.bfs_places.proofs.Places.{place_of}
 use Rattle.bfs_places.proofs.Spent.{IsSpent, left_above, tells_next, tells_past, view_entered}
 
 -- Of no place, or of a vote's -------------------------------------------------------------------------------------------------
@@ -74,7 +77,7 @@ no_place m none place is lone = let no : None ≡ Some place = sym none ∙ is i
 a_vote : (view number : ℕ) (place : Place) → Some (Vote view number) ≡ Some place → IsLone place → ⊥
 a_vote view number place is lone = subst IsLone (sym (some_is (Vote view number) place is)) lone
 
-pub vote_silent : (m : OrderMessage) (auth : List (List ℕ)) → (header (record { message = m; auth = auth })).tag < 5 → IsSilent (record { message = Order m; auth = auth })
+pub vote_silent : (m : OrderMessage) (auth : Authenticator) → (header (record { message = m; auth = auth })).tag < 5 → IsSilent (record { message = Order m; auth = auth })
 vote_silent (ordering.PrePrepare proposal) auth small = a_vote proposal.vote.view proposal.vote.number
 vote_silent (ordering.Prepare vote) auth small = a_vote vote.view vote.number
 vote_silent (ordering.Commit vote) auth small = no_place (Order (ordering.Commit vote)) refl
@@ -220,7 +223,7 @@ leaves_fresh node view = taken_or_still node (leaving_refusal node view) (left_f
 
 -- A message comes -------------------------------------------------------------------------------------------------------------
 
-message_fresh : (node : Node) (m : Message) (auth : List (List ℕ)) → IsBounded node.order
+message_fresh : (node : Node) (m : Message) (auth : Authenticator) → IsBounded node.order
     → FreshBy node (unless (message_refusal node (record { message = m; auth = auth }) m) node (message_delivered node (record { message = m; auth = auth }) m))
 message_fresh node (Request request) auth bounded =
     let s : Signed model.Request = record { message = request; auth = auth } in
@@ -302,7 +305,7 @@ checkpoint_fresh node = go (checkpoint_refusal node) refl node.files
           said = λ place. Order own.message;
           each = one_in (IsFresh node.order now (λ place. Order own.message)) (as_message Order own)
               (λ place is lone. subst (λ (p : Place). (Order own.message ≡ Order own.message) × ((IsSpent node.order p → ⊥) × IsSpent now p)) (some_is (Checkpoint n) place is)
-              (refl, (tells_next node.order n none, tells_past node.keys node.order n d none)));
+              (refl, ((λ spent. tells_next node.order n none spent.1), tells_past node.keys node.order n d none)));
         }
 
 -- Each step -------------------------------------------------------------------------------------------------------------------

@@ -1,7 +1,10 @@
 -- What proofs share.
+mod Places
 mod Texts
-mod Senders
 mod Spent
+mod Numbers
+mod Senders
+mod Coming
 mod Fresh
 mod Once
 mod Reached

@@ -1,5 +1,6 @@
 -- Of all that a node gave to be sent one message is of each place that is no vote's.
 use Rattle.std.proofs.Common.{◌≡◌, [], Some, inl, inr, refl, sym, subst, ◌∙◌}
+use Rattle.bfs_auth.specs.declared.places.Place.{Place}
 use Rattle.bfs_messages.specs.declared.message.Message.{Message}
 use Rattle.bfs_messages.specs.declared.signed.Signed.{Signed}
 use Rattle.bfs_order.specs.Laws.Calls.{CallsKeepTheReplica}
@@ -10,7 +11,7 @@ use Rattle.bfs_nodes_agree.specs.Orders.Replicas.{OrderReplica}
 use Rattle.bfs_nodes_agree.specs.Nodes.Replicas.{NodeReplica, after_node_step}
 use Rattle.bfs_nodes_agree.specs.Nodes.Steps.{NodeStep, deeds_of, outcome}
 use Rattle.bfs_nodes_agree.proofs.Public.{IsBounded, either_in, stays_kept, step_leads}
-use Rattle.bfs_places.specs.Places.{Place, place_of}
+use Rattle.bfs_places.proofs.Places.{place_of}
 use Rattle.bfs_places.proofs.Fresh.{IsLone, step_fresh}
 use Rattle.bfs_places.proofs.Spent.{IsSpent, spent_on}
 

@@ -1,8 +1,11 @@
 -- What holds of nodes after every list of calls and deliveries, and of a world of moves that follows them.
-use Rattle.std.proofs.Common.{ℕ, Bool, List, [], ◌∷◌, map, subst}
+use Rattle.std.proofs.Common.{ℕ, Bool, List, [], ◌∷◌, None, map, sym, subst, arith}
+use Rattle.std.proofs.lemmas.List.{length-replicate}
+use Rattle.bfs_votes.specs.Votes.{replicas}
 use Rattle.bfs_codec.specs.Laws.{MessageWasWritten, OneBatch}
 use Rattle.bfs_order.specs.Laws.Calls.{CallsKeepTheReplica, IsKept}
 use Rattle.bfs_order.specs.Laws.Logs.{HasNoLaterView, IsWindowed}
+use Rattle.bfs_order.specs.Replica.States.{State}
 use Rattle.bfs_agreement.specs.Histories.{World}
 use Rattle.bfs_agreement.specs.Moves.{after_steps, new_world}
 use Rattle.bfs_agreement.proofs.Public.{Sound, run_sound, start_sound}
@@ -13,9 +16,11 @@ use Rattle.bfs_nodes_agree.specs.Views.Replicas.{after_view_turns}
 use Rattle.bfs_nodes_agree.specs.Nodes.Premises.{AreAuthentic, AreShared, Comes, IsAuthentic}
 use Rattle.bfs_nodes_agree.specs.Nodes.Replicas.{Beginning, Keyring, NodeReplicas, NodeTurn, after_node_turn, after_node_turns, new_node_replicas, turn_of}
 use Rattle.bfs_nodes_agree.specs.Nodes.Steps.{deeds_of}
-use Rattle.bfs_nodes_agree.proofs.Public.{AllIn, all_turns, AreRight, AreWindowed, at_each, both_at, IsBounded, IsFollowed, new_followed, new_right, none_in, ordered_turns, right_on, stays_kept, step_right}
+use Rattle.bfs_nodes_agree.proofs.Public.{AllIn, all_turns, AreKept, AreRight, AreWindowed, at_each, both_at, BringAll, IsBounded, IsFollowed, new_followed, new_right, none_in, none_kept, ordered_turns, right_on, stays_kept, step_right}
+use Rattle.bfs_places.proofs.Coming.{step_brings, step_kept}
+use Rattle.bfs_places.proofs.Numbers.{IsLow, IsNumbered}
 use Rattle.bfs_places.proofs.Once.{Once, once_on}
-use Rattle.bfs_places.proofs.Senders.{IsKinded, deeds_kinded}
+use Rattle.bfs_places.proofs.Senders.{IsKinded, Knows, deeds_known}
 
 -- laws of the crates below
 pub record Below : Type 0 where
@@ -33,7 +38,8 @@ pub record Facts (f : ℕ) (faulty : ℕ → Bool) (w : NodeReplicas) (v : Order
   pub windowed : AreWindowed v
   pub followed : IsFollowed f v t
   pub sound : Sound f faulty t
-  pub kinded : (k : ℕ) → AllIn (IsKinded f) (v k).sent
+  pub knows : (k : ℕ) → Knows f (v k)
+  pub kept : (k : ℕ) → AreKept IsLow f (w k).node.changes
   pub once : (k : ℕ) → Once (w k)
 
 -- orders that do as nodes do, and a world that follows them
@@ -51,7 +57,11 @@ module _ (laws : Below) (f : ℕ) (faulty : ℕ → Bool) where
       let may = (step_right laws.same laws.views laws.written laws.one f faulty w v facts.right turn comes).may in
       let ordered = ordered_turns faulty laws.windows laws.made laws.valid list v facts.windowed may in
       let moves = all_turns f faulty laws.moved laws.same ordered.0 v t facts.followed ordered.1 in
-      let bounded = subst IsBounded (facts.right who).tracks.state (facts.right who).bounded in
+      let at = (facts.right who).tracks.state in
+      let bounded = subst IsBounded at (facts.right who).bounded in
+      let log = subst (λ (s : State). AllIn IsNumbered s.log) at (facts.knows who).log in
+      let authentic = IsAuthentic faulty w (w who).node.keys in
+      let brings = step_brings f authentic (w who).node bounded log (facts.kept who) turn.step comes in
       record {
         orders = after_view_turns v list;
         world = after_steps f t moves.0;
@@ -60,7 +70,9 @@ module _ (laws : Below) (f : ℕ) (faulty : ℕ → Bool) where
           windowed = at_each (λ k r o. IsWindowed o.state) turn w v (stays_kept IsWindowed laws.windows.1 deeds (v who) (facts.windowed who)) facts.windowed;
           followed = subst (λ (x : OrderReplicas). IsFollowed f x (after_steps f t moves.0)) ordered.2 moves.2;
           sound = run_sound f faulty t moves.0 facts.sound moves.1;
-          kinded = at_each (λ k r o. AllIn (IsKinded f) o.sent) turn w v (deeds_kinded laws.same f deeds (v who) (facts.followed who).same_f (facts.kinded who)) facts.kinded;
+          knows = at_each (λ k r o. Knows f o) turn w v
+              (deeds_known laws.same f deeds (v who) (facts.followed who).same_f (facts.knows who) (subst (λ (s : State). BringAll IsNumbered s deeds) (sym at) brings)) facts.knows;
+          kept = both_at w turn (λ k r. AreKept IsLow f r.node.changes) (step_kept f authentic (w who).node turn.step comes log (facts.kept who)) facts.kept;
           once = both_at w turn (λ k r. Once r) (once_on laws.same (w who) turn.step bounded (facts.once who)) facts.once;
         };
       }
@@ -76,6 +88,7 @@ module _ (laws : Below) (f : ℕ) (faulty : ℕ → Bool) where
         windowed = λ k. laws.windows.0 f k;
         followed = new_followed f;
         sound = start_sound f faulty;
-        kinded = λ k. none_in (IsKinded f);
+        knows = λ k. record { view = omega arith; log = none_in IsNumbered; sent = none_in (IsKinded f); offers = none_in IsNumbered };
+        kept = λ k. (length-replicate (replicas f) None, none_kept IsLow 0 (replicas f));
         once = λ k. record { spent = λ s place i is lone. absurd i; one = λ s t place i j is also lone. absurd i };
       }) turns comes

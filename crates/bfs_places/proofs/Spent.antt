@@ -3,6 +3,8 @@ use Rattle.std.proofs.Common.{◌≡◌, ℕ, ◌+◌, ◌<◌, ◌≤◌, ◌==
 use Rattle.std.specs.Prelude.{max, nat_le, nat_lt}
 use Rattle.std.proofs.lemmas.Bool.{and_from, and_parts, cases_lt, cond_both, eq-eqb, leb-true, lt-ltb, ltb-true, or_left, or_right}
 use Rattle.bfs_auth.specs.Keys.{Keys}
+use Rattle.bfs_auth.specs.declared.places.Place.{Place}
+use Rattle.bfs_auth.specs.declared.places.Place.TheVariants.{Checkpoint, NewView, ViewChange, Vote}
 use Rattle.bfs_model.specs.Server.Limits.{log_size, most_number}
 use Rattle.bfs_votes.specs.Votes.{Header, has_slot, is_slot, is_taken}
 use Rattle.bfs_log.specs.Certificates.{StableCheckpoint, checkpoints_in}
@@ -24,7 +26,6 @@ use Rattle.bfs_order.specs.Replica.Views.{all_taken_over, as_proposals, entered,
 use Rattle.bfs_order.specs.declared.error.OrderError.TheVariants.{AlreadyHave, BadAuthenticator, OutsideMarks, WrongView}
 use Rattle.bfs_order.proofs.Public.{raised_either}
 use Rattle.bfs_nodes_agree.proofs.Public.{any_both, either_way, entered_same, not_hit, passed, placed, slot_is}
-use Rattle.bfs_places.specs.Places.{Checkpoint, NewView, Place, ViewChange, Vote}
 
 -- CHECKPOINTs of its own ----------------------------------------------------------------------------------------------------
 
@@ -110,20 +111,22 @@ tells_next s number none past =
     let free = (not_hit (has_slot (headers s.log) 5 s.me 0 number) AlreadyHave None first.1).0 in
     elim past [ inl le ↦ absurd (omega (arith, le, above)) | inr there ↦ absurd cc ]
 
-pub tells_past : (keys : Keys) (s : State) (number : ℕ) (d : List ℕ) → checkpoint_refusal s number ≡ None → Past s.me number (checkpointed keys s number d).now.low (checkpointed keys s number d).now.log
+pub tells_past : (keys : Keys) (s : State) (number : ℕ) (d : List ℕ) → checkpoint_refusal s number ≡ None
+    → (number ≤ most_number) × Past s.me number (checkpointed keys s number d).now.low (checkpointed keys s number d).now.log
 tells_past keys s number d none =
     let own = checkpoint keys s number d in
-    let within = (passed (is_between s number && nat_le number most_number) OutsideMarks _ none).0 in
-    let above = between s.me number s number (and_parts (is_between s number) (nat_le number most_number) within).0 in
+    let within = and_parts (is_between s number) (nat_le number most_number) (passed (is_between s number && nat_le number most_number) OutsideMarks _ none).0 in
+    let above = between s.me number s number within.0 in
     let itself : is_slot 5 s.me 0 number (header own) ≡ true = and_from (s.me == s.me) ((0 == 0) && (number == number)) (eq-eqb s.me s.me refl) (eq-eqb number number refl) in
     let there : has_slot (headers (s.log ++ own ∷ [])) 5 s.me 0 number ≡ true = any_both (is_slot 5 s.me 0 number) s.log (own ∷ [])
     ∙ or_right (has_slot (headers s.log) 5 s.me 0 number) (has_slot (headers (own ∷ [])) 5 s.me 0 number) (or_left (is_slot 5 s.me 0 number (header own)) false itself) in
-    past_settled s.me number (with_message s own) (header own) above (inr there)
+    (leb-true number most_number within.1, past_settled s.me number (with_message s own) (header own) above (inr there))
 
 -- Views ---------------------------------------------------------------------------------------------------------------------
 
+-- and a view below 2^63 stays so
 abbrev Rise : State → State → Type 0
-Rise s t = (s.view ≤ t.view) × (max s.view s.asked ≤ max t.view t.asked)
+Rise s t = (s.view ≤ t.view) × (max s.view s.asked ≤ max t.view t.asked) × (s.view ≤ most_number → t.view ≤ most_number)
 
 pub left_above : (s : State) (view : ℕ) → leaving_refusal s view ≡ None → max s.view s.asked < view
 left_above s view none = ltb-true (max s.view s.asked) view (and_parts (nat_lt (max s.view s.asked) view) (nat_le view most_number) (passed _ WrongView None none).0).0
@@ -132,7 +135,7 @@ pub view_entered : (keys : Keys) (s : State) (view : ℕ) (stable : Option Stabl
 view_entered keys s view stable handed = entered_same (λ (u : State). u.view) (λ u low log. refl) keys s view stable handed
 
 still : (s : State) → Rise s s
-still s = (omega arith, omega arith)
+still s = (omega arith, omega arith, λ most. most)
 
 rises : (s : State) (call : Call) → Rise s (outcome s call).now
 rises s (Takes keys m) = either_way (λ o. Rise s o.now) (refusal keys s m) s (accepted keys s m) (λ _. still s) (still s)
@@ -140,21 +143,26 @@ rises s (Proposes keys batch) = either_way (λ o. Rise s o.now) (proposal_refusa
 rises s Executes = elim (next_order s) as (λ o. Rise s (execution s o).now) [ None ↦ still s | Some m ↦ still s ]
 rises s (Checkpoints keys number d) = either_way (λ o. Rise s o.now) (checkpoint_refusal s number) s (checkpointed keys s number d) (λ _. still s) (still s)
 rises s (Installs keys c) = either_way (λ o. Rise s o.now) (install_refusal keys s c) s (installed s c) (λ _. still s) (still s)
-rises s (Leaves view) = either_way (λ o. Rise s o.now) (leaving_refusal s view) s (left s view) (λ none. let above = left_above s view none in (omega arith, omega (arith, above))) (still s)
+rises s (Leaves view) = either_way (λ o. Rise s o.now) (leaving_refusal s view) s (left s view) (λ none. let above = left_above s view none in (omega arith, omega (arith, above), λ most. most)) (still s)
 rises s (Enters keys view stable handed) = either_way (λ o. Rise s o.now) (entering_refusal s view) s (entered keys s view stable handed)
     (λ none.
     let a = and_parts (nat_lt s.view view) (nat_le s.asked view && nat_le view most_number) (passed _ WrongView None none).0 in
+    let b = and_parts (nat_le s.asked view) (nat_le view most_number) a.1 in
     let above = ltb-true s.view view a.0 in
-    let asked = leb-true s.asked view (and_parts (nat_le s.asked view) (nat_le view most_number) a.1).0 in
+    let asked = leb-true s.asked view b.0 in
+    let within = leb-true view most_number b.1 in
     let is = view_entered keys s view stable handed in
-    (omega (arith, above, is), omega (arith, above, asked, is))) (still s)
+    (omega (arith, above, is), omega (arith, above, asked, is), λ _. omega (arith, within, is))) (still s)
+
+pub view_stays : (s : State) (call : Call) → s.view ≤ most_number → (outcome s call).now.view ≤ most_number
+view_stays s call = (rises s call).2
 
 -- All places ----------------------------------------------------------------------------------------------------------------
 
--- nothing is said of votes here
+-- nothing is said of votes here; the number of a CHECKPOINT is below 2^63
 abbrev pub IsSpent : State → Place → Type 0
 IsSpent s (Vote view number) = Unit {0}
-IsSpent s (Checkpoint number) = Past s.me number s.low s.log
+IsSpent s (Checkpoint number) = (number ≤ most_number) × Past s.me number s.low s.log
 IsSpent s (ViewChange view) = view ≤ max s.view s.asked
 IsSpent s (NewView view) = view ≤ s.view
 
@@ -162,6 +170,6 @@ pub spent_on : CallsKeepTheReplica → (place : Place) (s : State) (call : Call)
 spent_on same (Vote view number) s call spent = tt
 spent_on same (Checkpoint number) s call spent =
     let now = (outcome s call).now in
-    subst (λ (me : ℕ). Past me number now.low now.log) (sym (same s call).1) (past_call s.me number s call spent)
+    (spent.0, subst (λ (me : ℕ). Past me number now.low now.log) (sym (same s call).1) (past_call s.me number s call spent.1))
 spent_on same (ViewChange view) s call spent = let up = (rises s call).1 in omega (arith, up, spent)
 spent_on same (NewView view) s call spent = let up = (rises s call).0 in omega (arith, up, spent)

@@ -10,7 +10,7 @@ use Rattle.bfs_messages.specs.declared.message.Message.TheVariants.{Order}
 use Rattle.bfs_messages.specs.declared.order_messages.OrderMessage.{OrderMessage}
 use Rattle.bfs_messages.specs.declared.order_messages.OrderMessage.TheVariants.{PrePrepare, Prepare, Commit, Checkpoint}
 use Rattle.bfs_nodes_agree.specs.Nodes.Premises.{SaysTheSame, order_signed_part, signed_part}
-use Rattle.bfs_places.specs.Places.{order_place, place_of}
+use Rattle.bfs_places.proofs.Places.{order_place, place_of}
 
 order_text_kept : (m : OrderMessage) → order_body_text (order_signed_part m) ≡ order_body_text m
 order_text_kept (PrePrepare proposal) = refl

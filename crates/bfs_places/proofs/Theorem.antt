@@ -1,5 +1,13 @@
--- A correct replica says one text of each place.
-use Rattle.std.proofs.Common.{◌≡◌, ℕ, ◌<◌, Bool, false, List, ◌⊎◌, Some, inl, inr, refl, sym, ap, subst, ◌∙◌, arith}
+-- A correct replica says one text of each place, so no index of a key signs two.
+use Rattle.std.proofs.Common.{◌≡◌, ℕ, ◌<◌, ◌≤◌, Bool, false, List, ◌⊎◌, Some, inl, inr, refl, sym, ap, subst, ◌∙◌, arith}
+use Rattle.std.proofs.lemmas.Bool.{leb-true}
+use Rattle.std.proofs.lemmas.Option.{option_and_then_some}
+use Rattle.bfs_auth.specs.Laws.{IndexIsOfOnePlace}
+use Rattle.bfs_auth.specs.Places.{index_of, place_in}
+use Rattle.bfs_auth.specs.declared.authenticators.Authenticator.{Authenticator}
+use Rattle.bfs_auth.specs.declared.places.Place.{Place}
+use Rattle.bfs_auth.specs.declared.places.Place.TheVariants.{Checkpoint, NewView, ViewChange, Vote}
+use Rattle.bfs_model.specs.Server.Limits.{most_number}
 use Rattle.bfs_votes.specs.Votes.{Header, Told, primary, says}
 use Rattle.bfs_log.specs.Headers.{header, message_header}
 use Rattle.bfs_log.specs.Logs.{Log, headers}
@@ -10,6 +18,8 @@ use Rattle.bfs_messages.specs.declared.message.Message.TheVariants.{Order, Reque
 use Rattle.bfs_messages.specs.declared.order_messages.OrderMessage.{OrderMessage}
 use Rattle.bfs_messages.specs.declared.order_messages.OrderMessage.TheVariants as ordering
 use Rattle.bfs_messages.specs.declared.signed.Signed.{Signed}
+use Rattle.bfs_messages.proofs.Public.{checkpoint_place, commit_place, new_view_place, pre_prepare_place, prepare_place, reply_place, request_place, view_change_place}
+use Rattle.bfs_order.specs.Replica.States.{State}
 use Rattle.bfs_order.specs.Replica.Views.{as_proposals}
 use Rattle.bfs_node.specs.Nodes.{Messages}
 use Rattle.bfs_agreement.specs.Histories as told
@@ -19,11 +29,13 @@ use Rattle.bfs_nodes_agree.specs.Orders.Replicas.{OrderReplica, OrderReplicas}
 use Rattle.bfs_nodes_agree.specs.Views.Changes.{told_change}
 use Rattle.bfs_nodes_agree.specs.Nodes.Premises.{HasSaid, SaysTheSame, offers_in}
 use Rattle.bfs_nodes_agree.specs.Nodes.Replicas.{NodeReplicas, after_node_turns, new_node_replicas}
-use Rattle.bfs_nodes_agree.proofs.Public.{AllIn, in_map, offer_tag, out_of_map, same_header, told_in}
-use Rattle.bfs_places.specs.Laws.{HasOneTextOfEachPlace, OneTextOfEachPlace}
-use Rattle.bfs_places.specs.Places.{Checkpoint, NewView, Place, ViewChange, Vote, order_place, place_of}
+use Rattle.bfs_nodes_agree.proofs.Public.{AllIn, IsBounded, in_map, offer_tag, out_of_map, same_header, told_in}
+use Rattle.bfs_places.specs.Laws.{HasOneTextOfEachPlace, OneTextOfEachIndex, OneTextOfEachPlace}
 use Rattle.bfs_places.proofs.Fresh.{IsLone, vote_silent}
+use Rattle.bfs_places.proofs.Numbers.{AreNumbers}
+use Rattle.bfs_places.proofs.Places.{order_place, place_of}
 use Rattle.bfs_places.proofs.Reached.{Below, Facts, always}
+use Rattle.bfs_places.proofs.Spent.{IsSpent}
 use Rattle.bfs_places.proofs.Texts.{header_tells, same_place, same_text}
 
 -- Places that are no votes' -----------------------------------------------------------------------------------------------------
@@ -71,12 +83,12 @@ Tells log h = Told (headers log) h.tag h.sender h.view h.number h.digest
 tells_it : (log : Log) (s : Signed OrderMessage) (m : OrderMessage) → SaysTheSame (Order s.message) (Order m) → IsIn s log → Tells log (message_header m)
 tells_it log s m same i = subst (Tells log) (same_header s.message m same) (in_told (headers log) (header s) (in_map header log s i))
 
-sent_it : (o : OrderReplica) (auth : List (List ℕ)) (x : Message) (m : OrderMessage) → SaysTheSame x (Order m) → (message_header m).tag < 5 → Spoken o (record { message = x; auth = auth }) x → Tells o.sent (message_header m)
+sent_it : (o : OrderReplica) (auth : Authenticator) (x : Message) (m : OrderMessage) → SaysTheSame x (Order m) → (message_header m).tag < 5 → Spoken o (record { message = x; auth = auth }) x → Tells o.sent (message_header m)
 sent_it o auth (Order x) m same small spoken =
     tells_it o.sent (record { message = x; auth = auth }) m same (spoken (subst (λ (h : Header). h.tag < 5) (sym (same_header x m same)) small))
 sent_it o auth other m same small spoken = absurd cc
 
-offered_it : (o : OrderReplica) (auth : List (List ℕ)) (x : Message) (p : Signed OrderMessage) → Spoken o (record { message = x; auth = auth }) x → IsIn p (offers_in x) → IsIn p o.offers
+offered_it : (o : OrderReplica) (auth : Authenticator) (x : Message) (p : Signed OrderMessage) → Spoken o (record { message = x; auth = auth }) x → IsIn p (offers_in x) → IsIn p o.offers
 offered_it o auth (message.NewView new) p spoken i = spoken p i
 offered_it o auth other p spoken i = absurd i
 
@@ -92,8 +104,12 @@ vote_said o sent all m small said =
           inr (ap (λ (h : Header). h.tag) (sym (same_header p.message m offer.2)) ∙ offer_tag s.message p offer.1, tells_it o.offers p m offer.2 (offered_it o s.auth s.message p spoken offer.1))
     ]
 
+abbrev IsNumberedHeader : Header → Type 0
+IsNumberedHeader h = h.tag < 4 → AreNumbers h.view h.number
+
 -- what is known of a vote that it has said
 record IsVote (f : ℕ) (t : World) (k : ℕ) (h : Header) : Type 0 where
+  numbered : IsNumberedHeader h
   sender : h.sender ≡ k
   led : h.tag ≡ 2 → k ≡ primary f h.view
   backup : h.tag ≡ 3 → k ≡ primary f h.view → ⊥
@@ -132,16 +148,19 @@ header_is h g a b c d e =
     ∙ ap (λ (x : ℕ). record g { number = x; digest = h.digest }) d
     ∙ ap (λ (x : List ℕ). record g { digest = x }) e
 
-module _ (f : ℕ) (faulty : ℕ → Bool) (w : NodeReplicas) (v : OrderReplicas) (t : World) (facts : Facts f faulty w v t) (k : ℕ) (correct : faulty k ≡ false) where
-  kinded_so : (h : Header) → Tells (v k).sent h → (h.tag ≡ 2 → h.sender ≡ primary f h.view) × (h.tag ≡ 3 → h.sender ≡ primary f h.view → ⊥)
-  kinded_so h x =
-      let got = told_in (headers (v k).sent) h.tag h.sender h.view h.number h.digest x in
-      let from = out_of_map header (v k).sent got.0 got.1 in
-      let is = got.2 in
-      let same : header from.0 ≡ h = sym from.2 ∙ header_is got.0 h is.tag is.sender is.view is.number is.digest in
-      let kinded = facts.kinded k from.0 from.1 in
-      subst (λ (g : Header). (g.tag ≡ 2 → g.sender ≡ primary f g.view) × (g.tag ≡ 3 → g.sender ≡ primary f g.view → ⊥)) same (kinded.led, kinded.backup)
+-- what holds of each header of a log holds of each that it tells
+of_told : (P : Header → Type 0) (log : Log) → AllIn (λ (m : Signed OrderMessage). P (header m)) log → (h : Header) → Tells log h → P h
+of_told P log all h x =
+    let got = told_in (headers log) h.tag h.sender h.view h.number h.digest x in
+    let from = out_of_map header log got.0 got.1 in
+    let is = got.2 in
+    subst P (sym from.2 ∙ header_is got.0 h is.tag is.sender is.view is.number is.digest) (all from.0 from.1)
 
+-- a PRE-PREPARE is of the primary, and a PREPARE of another one
+abbrev IsKindedHeader : (f : ℕ) → Header → Type 0
+IsKindedHeader f h = IsNumberedHeader h × (h.tag ≡ 2 → h.sender ≡ primary f h.view) × (h.tag ≡ 3 → h.sender ≡ primary f h.view → ⊥)
+
+module _ (f : ℕ) (faulty : ℕ → Bool) (w : NodeReplicas) (v : OrderReplicas) (t : World) (facts : Facts f faulty w v t) (k : ℕ) (correct : faulty k ≡ false) where
   vote_is : (m : OrderMessage) → (message_header m).tag < 5 → HasSaid (w k).sent (Order m) → IsVote f t k (message_header m)
   vote_is m small said =
       let h = message_header m in
@@ -151,11 +170,12 @@ module _ (f : ℕ) (faulty : ℕ → Bool) (w : NodeReplicas) (v : OrderReplicas
         | inl x ↦
             let there : Told (t k).sent h.tag h.sender h.view h.number h.digest = sym (follows.sent (says h.tag h.sender h.view h.number h.digest)) ∙ x in
             let me = kept.names h.tag h.sender h.view h.number h.digest there in
-            let kinded = kinded_so h x in
+            let kinded = of_told (IsKindedHeader f) (v k).sent (λ m i. let is = (facts.knows k).sent m i in (is.numbered, is.led, is.backup)) h x in
             record {
+              numbered = kinded.0;
               sender = me;
-              led = λ two. sym me ∙ kinded.0 two;
-              backup = λ three leads. kinded.1 three (me ∙ leads);
+              led = λ two. sym me ∙ kinded.1 two;
+              backup = λ three leads. kinded.2 three (me ∙ leads);
               said = inl (subst (λ (j : ℕ). Told (t k).sent h.tag j h.view h.number h.digest) me there);
             }
         | inr offer ↦
@@ -164,6 +184,7 @@ module _ (f : ℕ) (faulty : ℕ → Bool) (w : NodeReplicas) (v : OrderReplicas
             let there : Told (t k).offers 2 h.sender h.view h.number h.digest = sym (follows.offers (says 2 h.sender h.view h.number h.digest)) ∙ x in
             let names = kept.offers_names h.sender h.view h.number h.digest there in
             record {
+              numbered = of_told IsNumberedHeader (v k).offers (facts.knows k).offers h offer.1;
               sender = names.1;
               led = λ _. sym names.1 ∙ names.0;
               backup = λ three. absurd (omega (arith, two, three));
@@ -192,18 +213,67 @@ module _ (f : ℕ) (faulty : ℕ → Bool) (w : NodeReplicas) (v : OrderReplicas
       let digests = one_digest f faulty t facts.sound k h.tag g.tag h.view h.number h.digest g.digest correct p.said other in
       header_tells m n a.small b.small (header_is h g (one_kind h g p q views a.kind b.kind) (p.sender ∙ sym q.sender) views numbers digests)
 
-  has_one : HasOneTextOfEachPlace (w k).sent
-  has_one one other (Vote view number) x y is also =
+  of_each : (one other : Message) (place : Place) → HasSaid (w k).sent one → HasSaid (w k).sent other → place_of one ≡ Some place → place_of other ≡ Some place → body_text one ≡ body_text other
+  of_each one other (Vote view number) x y is also =
       let a = is_order one view number is in
       let b = is_order other view number also in
       ap body_text a.1
       ∙ one_vote a.0 b.0 view number (subst (HasSaid (w k).sent) a.1 x) (subst (HasSaid (w k).sent) b.1 y) (sym (ap place_of a.1) ∙ is) (sym (ap place_of b.1) ∙ also)
       ∙ sym (ap body_text b.1)
-  has_one one other (Checkpoint number) x y is also = one_alone (w k).sent (facts.once k).one one other (Checkpoint number) tt x y is also
-  has_one one other (ViewChange view) x y is also = one_alone (w k).sent (facts.once k).one one other (ViewChange view) tt x y is also
-  has_one one other (NewView view) x y is also = one_alone (w k).sent (facts.once k).one one other (NewView view) tt x y is also
+  of_each one other (Checkpoint number) x y is also = one_alone (w k).sent (facts.once k).one one other (Checkpoint number) tt x y is also
+  of_each one other (ViewChange view) x y is also = one_alone (w k).sent (facts.once k).one one other (ViewChange view) tt x y is also
+  of_each one other (NewView view) x y is also = one_alone (w k).sent (facts.once k).one one other (NewView view) tt x y is also
+
+  -- What is read of texts -------------------------------------------------------------------------------------------------------
+
+  spent_by : (m : Message) (place : Place) → HasSaid (w k).sent m → place_of m ≡ Some place → IsLone place → IsSpent (w k).node.order place
+  spent_by m place said is lone =
+      let alone = said_alone (w k).sent m place said is lone in
+      (facts.once k).spent alone.by place alone.sent_so alone.of_place lone
+
+  at : (v k).state ≡ (w k).node.order
+  at = (facts.right k).tracks.state
+
+  view_fits : (w k).node.order.view ≤ most_number
+  view_fits = subst (λ (s : State). s.view ≤ most_number) at (facts.knows k).view
+
+  asked_fits : (w k).node.order.asked ≤ most_number
+  asked_fits = leb-true (w k).node.order.asked most_number (subst IsBounded at (facts.right k).bounded)
+
+  order_reads : (m : OrderMessage) → HasSaid (w k).sent (Order m) → place_in (body_text (Order m)) ≡ order_place m
+  order_reads (ordering.PrePrepare proposal) said =
+      let fits = (vote_is (ordering.PrePrepare proposal) (omega arith) said).numbered (omega arith) in
+      pre_prepare_place proposal.vote fits.0 fits.1
+  order_reads (ordering.Prepare vote) said =
+      let fits = (vote_is (ordering.Prepare vote) (omega arith) said).numbered (omega arith) in
+      prepare_place vote fits.0 fits.1
+  order_reads (ordering.Commit vote) said = commit_place vote
+  order_reads (ordering.Checkpoint checkpoint) said = checkpoint_place checkpoint (spent_by (Order (ordering.Checkpoint checkpoint)) (Checkpoint checkpoint.number) said refl tt).0
+
+  reads : (m : Message) → HasSaid (w k).sent m → place_in (body_text m) ≡ place_of m
+  reads (Order m) said = order_reads m said
+  reads (message.ViewChange change) said =
+      let le = spent_by (message.ViewChange change) (ViewChange change.view) said refl tt in
+      view_change_place change (omega (arith, le, view_fits, asked_fits))
+  reads (message.NewView new) said =
+      let le = spent_by (message.NewView new) (NewView new.view) said refl tt in
+      new_view_place new (omega (arith, le, view_fits))
+  reads (Request request) said = request_place request
+  reads (Reply reply) said = reply_place reply
+
+  has_one : HasOneTextOfEachPlace (w k).sent
+  has_one one other place x y is also = of_each one other place x y (sym (reads one x) ∙ is) (sym (reads other y) ∙ also)
 
 pub one_text_of_each_place : Below → OneTextOfEachPlace
 one_text_of_each_place laws f keys start faulty steps shared comes k correct =
     let known = always laws f faulty keys start steps shared comes in
     has_one f faulty (after_node_turns (new_node_replicas f keys start) steps) known.orders known.world known.facts k correct
+
+-- Indexes -------------------------------------------------------------------------------------------------------------------------
+
+pub one_text_of_each_index : OneTextOfEachPlace → IndexIsOfOnePlace → OneTextOfEachIndex
+one_text_of_each_index texts places key f keys start faulty steps shared comes k correct one other index x y is also =
+    option_and_then_some (index_of key) (place_in (body_text one)) index is (λ a at from.
+    option_and_then_some (index_of key) (place_in (body_text other)) index also (λ b there by.
+    let same = places key a b index from by in
+    texts f keys start faulty steps shared comes k correct one other a x y at (there ∙ ap (λ (p : Place). Some p) (sym same))))

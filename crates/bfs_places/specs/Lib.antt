@@ -1,3 +1,2 @@
 -- What the contracts of bfs_places cite.
-pub mod Places
 pub mod Laws

@@ -4,3 +4,4 @@ pub mod Holders
 pub mod Holding
 pub mod Journals
 pub mod Lives
+mod Saying

@@ -12,5 +12,5 @@ mod storing;
 pub use error::RecoverError;
 pub use folder::Folder;
 pub use keeping::Keeping;
-pub use laws::{lives_agree, the_node_comes_back};
+pub use laws::{lives_agree, lives_say_one_text, the_node_comes_back};
 pub use recovering::recover;

@@ -3,6 +3,7 @@ use Rattle.std.proofs.Common.{◌≡◌, ◌∙◌, ℕ, Bool, true, false, cond
 use Rattle.std.specs.Prelude.{All, Contains, nat_lt}
 use Rattle.std.specs.List.{cons_option, filter_map, fold, position, range_with_len, slice_get, slice_set}
 use Rattle.std.proofs.lemmas.List.Elements.{All-append, All-cons, All-get_or, All-head, All-nil, All-set, All-tail}
+use Rattle.std.proofs.lemmas.Bool.{ltb-false}
 use Rattle.std.proofs.lemmas.Option.{slice_get_cases}
 use Rattle.bfs_model.specs.Bytes.Items.{Fault, hyper_at}
 use Rattle.bfs_model.specs.Server.Limits.{most_request_bytes}
@@ -18,7 +19,7 @@ use Rattle.bfs_clients.specs.Clients.{Clients}
 use Rattle.bfs_clients.specs.Counters.{Counter, counted_call}
 use Rattle.bfs_relay.specs.Origins.{WhatIsToldHasItsOrigin, CallCame, Came, FrameCame, HasOrigin, ReplyCame, TurnCame, call_as, call_at, told_in}
 use Rattle.bfs_relay.proofs.Leading.{leader_is_replica}
-use Rattle.bfs_relay.proofs.Backed.{SeatHolds, asked_holds, begun_holds, heard_holds, more_told, no_told, one_told, reply_holds}
+use Rattle.bfs_relay.proofs.Backed.{IsTaken, SeatHolds, asked_holds, begun_holds, heard_holds, more_told, no_told, one_told, reply_holds}
 use Rattle.bfs_relay.specs.OwnReplies.{own_reply}
 use Rattle.bfs_relay.specs.Parcels.{dropped_told, reply_told}
 use Rattle.bfs_frames.specs.declared.parcels.To.{To}
@@ -31,7 +32,7 @@ use Rattle.bfs_relay.specs.Turns.{answered, call_taken, calls_taken, frame_taken
 record Holds (clients : Clients) (came : Came) (relay : Relay) : Type 0 where
   keys : relay.clients ≡ clients
   seats : All (SeatHolds clients came) relay.seats
-  calls : All (Contains came.calls) relay.calls
+  calls : All (IsTaken came) relay.calls
   told : All (HasOrigin clients came) relay.told
 
 -- Parts of the definitions, by names -----------------------------------------------------------------------------------
@@ -60,7 +61,7 @@ module _ (clients : Clients) (came : Came) where
         | inr past ↦ let both = sym past.1 ∙ is in absurd cc
       ]
 
-  begun_by_holds : (now place : ℕ) (call : Call) (relay : Relay) → Contains came.calls call → Holds clients came relay → (seat : Option Seat)
+  begun_by_holds : (now place : ℕ) (call : Call) (relay : Relay) → IsTaken came call → Holds clients came relay → (seat : Option Seat)
       → slice_get relay.seats place ≡ seat → Holds clients came (begun_by seat now place call relay)
   begun_by_holds now place call relay called holds None is = holds
   begun_by_holds now place call relay called holds (Some seat) is =
@@ -76,15 +77,15 @@ module _ (clients : Clients) (came : Came) where
       }
       )
 
-  begun_at_holds : (now place : ℕ) (call : Call) (relay : Relay) → Contains came.calls call → Holds clients came relay → Holds clients came (begun_at now place call relay)
+  begun_at_holds : (now place : ℕ) (call : Call) (relay : Relay) → IsTaken came call → Holds clients came relay → Holds clients came (begun_at now place call relay)
   begun_at_holds now place call relay called holds = begun_by_holds now place call relay called holds (slice_get relay.seats place) refl
 
-  next_of_holds : (now place : ℕ) (relay : Relay) → Holds clients came relay → (calls : List Call) → All (Contains came.calls) calls
+  next_of_holds : (now place : ℕ) (relay : Relay) → Holds clients came relay → (calls : List Call) → All (IsTaken came) calls
       → Holds clients came (next_of calls now place relay)
   next_of_holds now place relay holds [] all = holds
   next_of_holds now place relay holds (call ∷ rest) all =
-      begun_at_holds now place call (record relay { calls = rest }) (All-head (Contains came.calls) call rest all)
-      (record { keys = holds.keys; seats = holds.seats; calls = All-tail (Contains came.calls) call rest all; told = holds.told })
+      begun_at_holds now place call (record relay { calls = rest }) (All-head (IsTaken came) call rest all)
+      (record { keys = holds.keys; seats = holds.seats; calls = All-tail (IsTaken came) call rest all; told = holds.told })
 
   next_begun_holds : (now place : ℕ) (relay : Relay) → Holds clients came relay → Holds clients came (next_begun now place relay)
   next_begun_holds now place relay holds = go (is_free_among (slice_get relay.seats place))
@@ -105,7 +106,7 @@ module _ (clients : Clients) (came : Came) where
       }
       go false = holds
 
-  queued_holds : (now : ℕ) (call : Call) (relay : Relay) → Contains came.calls call → Holds clients came relay → Holds clients came (queued now call relay)
+  queued_holds : (now : ℕ) (call : Call) (relay : Relay) → IsTaken came call → Holds clients came relay → Holds clients came (queued now call relay)
   queued_holds now call relay called holds = go (nat_lt (length relay.calls) most_waiting)
     where
       go : (room : Bool) → Holds clients came (cond room (record relay { calls = relay.calls ++ call ∷ [] }) (dropped now relay))
@@ -113,11 +114,11 @@ module _ (clients : Clients) (came : Came) where
         keys = holds.keys;
         seats = holds.seats;
         told = holds.told;
-        calls = All-append (Contains came.calls) relay.calls (call ∷ []) holds.calls (All-cons (Contains came.calls) call [] called (All-nil (Contains came.calls)));
+        calls = All-append (IsTaken came) relay.calls (call ∷ []) holds.calls (All-cons (IsTaken came) call [] called (All-nil (IsTaken came)));
       }
       go false = dropped_holds now relay holds
 
-  called_holds : (now : ℕ) (call : Call) (relay : Relay) → Contains came.calls call → Holds clients came relay → Holds clients came (called now call relay)
+  called_holds : (now : ℕ) (call : Call) (relay : Relay) → IsTaken came call → Holds clients came relay → Holds clients came (called now call relay)
   called_holds now call relay called holds = go (position is_free relay.seats)
     where
       go : (place : Option ℕ) → Holds clients came (placed place now call relay)
@@ -169,24 +170,26 @@ module _ (clients : Clients) (came : Came) where
   asked_all_holds now (place ∷ places) relay holds =
       asked_all_holds now places (asked_at now relay place) (asked_by_holds now place relay holds (slice_get relay.seats place) refl)
 
-  answered_holds : (now ticket : ℕ) (bytes : List ℕ) (relay : Relay) → Contains came.calls (record { ticket = ticket; bytes = bytes }) → Holds clients came relay
+  answered_holds : (now ticket : ℕ) (bytes : List ℕ) (relay : Relay) → IsTaken came (record { ticket = ticket; bytes = bytes }) → Holds clients came relay
       → (own : Option (List ℕ)) → own_reply bytes ≡ own → Holds clients came (answered own now ticket bytes relay)
-  answered_holds now ticket bytes relay in_came holds (Some reply) is = record {
+  answered_holds now ticket bytes relay taken holds (Some reply) is = record {
     keys = holds.keys;
     seats = holds.seats;
     calls = holds.calls;
     told = more_told clients came relay.told (reply_told ticket reply) holds.told
-        (reply_holds clients came ticket reply (inr (record { call = record { ticket = ticket; bytes = bytes }; called = in_came; has_ticket = refl; own = is })));
+        (reply_holds clients came ticket reply (inr (record { call = record { ticket = ticket; bytes = bytes }; called = taken.called; has_ticket = refl; own = is })));
   }
-  answered_holds now ticket bytes relay in_came holds None is = called_holds now (record { ticket = ticket; bytes = bytes }) relay in_came holds
+  answered_holds now ticket bytes relay taken holds None is = called_holds now (record { ticket = ticket; bytes = bytes }) relay taken holds
 
   taken_holds : (now : ℕ) (relay : Relay) (read : Result (ℕ × List ℕ) Fault) → CallCame came (call_at read) → Holds clients came relay
       → Holds clients came (taken_as read now relay)
-  taken_holds now relay (Ok call) in_came holds = go (nat_lt most_request_bytes (length call.1))
+  taken_holds now relay (Ok call) in_came holds = go (nat_lt most_request_bytes (length call.1)) refl
     where
-      go : (long : Bool) → Holds clients came (cond long relay (answered (own_reply call.1) now call.0 call.1 relay))
-      go true = holds
-      go false = answered_holds now call.0 call.1 relay in_came holds (own_reply call.1) refl
+      go : (long : Bool) → nat_lt most_request_bytes (length call.1) ≡ long
+          → Holds clients came (cond long relay (answered (own_reply call.1) now call.0 call.1 relay))
+      go true is = holds
+      go false is =
+          answered_holds now call.0 call.1 relay (record { called = in_came; short = ltb-false most_request_bytes (length call.1) is }) holds (own_reply call.1) refl
   taken_holds now relay (Err fault) in_came holds = holds
 
   frame_holds : (now : ℕ) (relay : Relay) (k : Kind) (payload : List ℕ) → CallCame came (call_as k payload) → Holds clients came relay
@@ -239,7 +242,7 @@ module _ (clients : Clients) (came : Came) where
   seats_free (counter ∷ counters) = All-cons (SeatHolds clients came) (free_seat counter) (map (λ c. free_seat c) counters) tt (seats_free counters)
 
   new_holds : (counters : List Counter) → Holds clients came (new_relay clients counters)
-  new_holds counters = record { keys = refl; seats = seats_free counters; calls = All-nil (Contains came.calls); told = no_told clients came }
+  new_holds counters = record { keys = refl; seats = seats_free counters; calls = All-nil (IsTaken came); told = no_told clients came }
 
 pub what_is_told_has_its_origin : WhatIsToldHasItsOrigin
 what_is_told_has_its_origin clients counters came turns all = told_holds clients came turns (new_relay clients counters) all (new_holds clients came counters)

@@ -1,10 +1,12 @@
 -- What a client has under way was signed for a call that came, and has counted replies that came; so what it is answered has its origin there.
-use Rattle.std.proofs.Common.{◌≡◌, ◌∙◌, ◌⊎◌, ℕ, ◌-◌, ◌*◌, ◌^◌, min, ◌==◌, Bool, true, false, cond, List, [], ◌∷◌, ◌++◌, length, Option, Some, None, inl, refl, sym, ap}
+use Rattle.std.proofs.Common.{◌≡◌, ◌∙◌, ◌⊎◌, ℕ, ◌-◌, ◌*◌, ◌^◌, ◌≤◌, min, ◌==◌, Bool, true, false, cond, List, [], ◌∷◌, ◌++◌, length, Option, Some, None, inl, refl, sym, ap, arith}
 use Rattle.std.specs.Prelude.{All, Contains, nat_lt}
 use Rattle.std.specs.Option.{option_map}
 use Rattle.std.proofs.lemmas.List.Elements.{All-append, All-cons, All-nil}
 use Rattle.std.proofs.lemmas.List.Sums.{fold-append}
+use Rattle.std.proofs.lemmas.Bool.{ltb-true}
 use Rattle.bfs_model.specs.Bytes.Items.{hyper}
+use Rattle.bfs_model.specs.Server.Limits.{most_request_bytes}
 use Rattle.bfs_messages.specs.declared.message.Message.{Message}
 use Rattle.bfs_messages.specs.declared.signed.Signed.{Signed}
 use Rattle.bfs_frames.specs.declared.kind.Kind.TheVariants as kind
@@ -50,13 +52,18 @@ sent now request = record request { sent_at = now; patience = min (2 * request.p
 abbrev made_call : Signed Message → Tally → client.Call
 made_call signed tally = record { request = signed; tally = tally }
 
+-- a call that came, and is no longer than a request may be
+pub record IsTaken (came : Came) (call : Call) : Type 0 where
+  pub called : Contains came.calls call
+  pub short : length call.bytes ≤ most_request_bytes
+
 -- what a call that begins is made of
 made : (may : Bool) (signed : Option (Signed Message)) (tally : Tally) (begun : client.Call)
     → cond may (option_map (λ (s : Signed Message). made_call s tally) signed) None ≡ Some begun
-    → (signed ≡ Some begun.request) × (begun.tally ≡ tally)
+    → (signed ≡ Some begun.request) × (begun.tally ≡ tally) × (may ≡ true)
 made true (Some s) tally begun is =
     let same : made_call s tally ≡ begun = cc in
-    (ap (λ (c : client.Call). Some c.request) same, sym (ap (λ (c : client.Call). c.tally) same))
+    (ap (λ (c : client.Call). Some c.request) same, sym (ap (λ (c : client.Call). c.tally) same), refl)
 made true None tally begun is = absurd cc
 made false signed tally begun is = absurd cc
 
@@ -83,16 +90,25 @@ module _ (clients : Clients) (came : Came) where
   request_origin Operator text goes is = absurd goes
   request_origin (Caller ticket) text goes is = absurd goes
 
-  pub begun_holds : (now : ℕ) (to : To) (call : Call) (seat : Seat) → IsToReplicas to → Contains came.calls call → SeatHolds clients came seat
+  pub begun_holds : (now : ℕ) (to : To) (call : Call) (seat : Seat) → IsToReplicas to → IsTaken came call → SeatHolds clients came seat
       → (begun : Option client.Call) → counted_call clients seat.counter call.bytes ≡ begun
       → SeatHolds clients came (seat_with now call seat begun) × All (HasOrigin clients came) (told_with to begun)
-  begun_holds now to call seat goes called holds None is = (holds, no_told)
-  begun_holds now to call seat goes called holds (Some begun) is =
+  begun_holds now to call seat goes taken holds None is = (holds, no_told)
+  begun_holds now to call seat goes taken holds (Some begun) is =
       let parts = made (nat_lt seat.counter.next (2 ^ 64 - 1)) (signed_request clients (record { client = seat.counter.client; timestamp = seat.counter.next; call = call.bytes }))
       (no_replies clients.f seat.counter.client seat.counter.next) begun is in
       let backed : IsBacked clients came seat.counter.client (outstanding now call.ticket begun) = record {
         timestamp = seat.counter.next;
-        asked = record { call = call; called = called; has_ticket = refl; signed = begun.request; is_signed = parts.0; is_text = refl };
+        asked = record {
+          call = call;
+          called = taken.called;
+          has_ticket = refl;
+          short = taken.short;
+          counted = omega (arith, ltb-true seat.counter.next (2 ^ 64 - 1) parts.2);
+          signed = begun.request;
+          is_signed = parts.0;
+          is_text = refl;
+        };
         replies = [];
         heard = All-nil (Contains came.replies);
         tallied = parts.1;

@@ -1,7 +1,8 @@
 -- Where what a relay tells comes from: each request was signed for a call that came, and each answer is the relay's own reply to the call of that ticket, or
 -- what f + 1 replicas sent in reply to the request that was signed for it.
-use Rattle.std.specs.Prelude.{◌≡◌, ℕ, List, [], ◌∷◌, ◌++◌, ◌⊎◌, All, Contains, Option, Some, None, Result, Ok, Err}
+use Rattle.std.specs.Prelude.{◌≡◌, ℕ, ◌<◌, ◌≤◌, ◌^◌, List, [], ◌∷◌, ◌++◌, ◌⊎◌, All, Contains, length, Option, Some, None, Result, Ok, Err}
 use Rattle.bfs_model.specs.Bytes.Items.{Fault, hyper, hyper_at}
+use Rattle.bfs_model.specs.Server.Limits.{most_request_bytes}
 use Rattle.bfs_clients.specs.Clients.{Clients, signed_request}
 use Rattle.bfs_clients.specs.Counters.{Counter}
 use Rattle.bfs_clients.specs.Tallies.{result_to}
@@ -61,6 +62,8 @@ pub record IsSignedFor (clients : Clients) (came : Came) (ticket client timestam
   pub call : Call
   pub called : Contains came.calls call
   pub has_ticket : call.ticket ≡ ticket
+  pub short : length call.bytes ≤ most_request_bytes
+  pub counted : timestamp < 2 ^ 64
   pub signed : Signed Message
   pub is_signed : signed_request clients (record { client = client; timestamp = timestamp; call = call.bytes }) ≡ Some signed
   pub is_text : text ≡ signed_text signed

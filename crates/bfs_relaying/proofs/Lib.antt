@@ -1,3 +1,4 @@
 pub mod Counting
 pub mod Rising
 pub mod Leaving
+pub mod Public

@@ -3,6 +3,7 @@ use Rattle.std.proofs.Common.{◌≡◌, ℕ, ◌==◌, Bool, false, List, [], �
 use Rattle.std.proofs.lemmas.Bool.{cond_both, eqb-true}
 use Rattle.bfs_auth.specs.Keys.{Keys}
 use Rattle.bfs_auth.specs.declared.principals.Principal.TheVariants as principal
+use Rattle.bfs_auth.specs.declared.authenticators.Authenticator.{Authenticator}
 use Rattle.bfs_log.specs.Batches.{Committed}
 use Rattle.bfs_log.specs.Certificates.{checkpoints_in}
 use Rattle.bfs_log.specs.Logs.{batch_in}
@@ -102,7 +103,7 @@ Knows w ForgetsProposed = ⊥
 Knows w (Settles c) = ⊥
 Knows w step = Unit {0}
 
-carried : (w : World) (x : OrderMessage) (auth : List (List ℕ)) (next : Committed) → batch_in x ≡ Some next → OfOrder (IsSigned w) (IsTold w) x auth → AllIn (IsSigned w) (requests_of next.batch)
+carried : (w : World) (x : OrderMessage) (auth : Authenticator) (next : Committed) → batch_in x ≡ Some next → OfOrder (IsSigned w) (IsTold w) x auth → AllIn (IsSigned w) (requests_of next.batch)
 carried w (PrePrepare proposal) auth next e is = subst (λ (n : Committed). AllIn (IsSigned w) (requests_of n.batch)) (some_is (record { number = proposal.vote.number; batch = proposal.batch }) next e) is
 carried w other auth next e is = absurd cc
 

@@ -5,10 +5,11 @@ use Rattle.std.specs.List.{slice_get}
 use Rattle.std.proofs.lemmas.Bool.{cond_both}
 use Rattle.std.proofs.lemmas.List.{length-replicate}
 use Rattle.bfs_model.specs.Server.Tree.{FileSystem, Time}
-use Rattle.bfs_auth.specs.Authenticators.{entry_for, is_hash}
+use Rattle.bfs_auth.specs.Authenticators.{entry_for, is_hash, is_right, passes, signature_in}
 use Rattle.bfs_auth.specs.Keys.{Keys}
 use Rattle.bfs_auth.specs.declared.pairwise.SharedKeys.{SharedKeys}
 use Rattle.bfs_auth.specs.declared.principals.Principal.TheVariants as principal
+use Rattle.bfs_auth.specs.declared.authenticators.Authenticator.{Authenticator}
 use Rattle.bfs_votes.specs.Votes.{Header, replicas}
 use Rattle.bfs_checkpoints.specs.Certificates.{told_as, told_checkpoint}
 use Rattle.bfs_checkpoints.specs.Keeping.{Keeping, settled, settles, with_snapshot}
@@ -68,15 +69,23 @@ use Rattle.bfs_nodes_agree.proofs.Public.{after_deeds, AllIn, AreKept, AreSo, be
 
 -- by these keys nothing passes
 abbrev no_keys : Keys
-no_keys = record { me = principal.Client 0; replicas = []; clients = [] }
+no_keys = record { me = principal.Client 0; replicas = []; clients = []; signers = []; replica_signers = []; signer = None }
 
 none_at : (n : ℕ) → slice_get (no_keys.clients) n ≡ None
 none_at zero = refl
 none_at (suc n) = refl
 
+no_key_at : (n : ℕ) → slice_get (no_keys.signers) n ≡ None
+no_key_at zero = refl
+no_key_at (suc n) = refl
+
 none_passes : (s : Signed model.Request) → request_is_signed no_keys s ≡ true → ⊥
+unfolding passes
 none_passes s e =
-    let none : request_is_signed no_keys s ≡ false = ap (λ (o : Option SharedKeys). is_hash o (word request_tag ++ request_text s.message) (entry_for no_keys.me s.auth)) (none_at s.message.client) in
+    let text : List ℕ = word request_tag ++ request_text s.message in
+    let none : request_is_signed no_keys s ≡ false =
+    ap (λ (key : Option (List ℕ)). is_right key (slice_get no_keys.clients s.message.client) text (entry_for no_keys.me s.auth) (signature_in s.auth)) (no_key_at s.message.client)
+    ∙ ap (λ (shared : Option SharedKeys). is_hash shared text (entry_for no_keys.me s.auth)) (none_at s.message.client) in
     absurd cc
 
 -- an order of which nothing is known but its state
@@ -89,7 +98,7 @@ module _ (R : Signed model.Request → Type 0) (K : Signed model.Checkpoint → 
   abbrev pub Holds : model.Batch → Type 0
   Holds batch = AllIn R (requests_of batch)
 
-  abbrev pub OfOrder : OrderMessage → (auth : List (List ℕ)) → Type 0
+  abbrev pub OfOrder : OrderMessage → (auth : Authenticator) → Type 0
   OfOrder (PrePrepare proposal) auth = Holds proposal.batch
   OfOrder (Prepare vote) auth = Unit {0}
   OfOrder (Commit vote) auth = Unit {0}
@@ -105,7 +114,7 @@ module _ (R : Signed model.Request → Type 0) (K : Signed model.Checkpoint → 
   abbrev pub OfChange : Signed model.ViewChange → Type 0
   OfChange s = Carries s.message
 
-  abbrev pub Bears : (Replies : model.Reply → Type 0) → Message → (auth : List (List ℕ)) → Type 0
+  abbrev pub Bears : (Replies : model.Reply → Type 0) → Message → (auth : Authenticator) → Type 0
   Bears Replies (Request request) auth = R (record { message = request; auth = auth })
   Bears Replies (Order m) auth = OfOrder m auth
   Bears Replies (ViewChange change) auth = Carries change
@@ -148,7 +157,7 @@ module _ (R : Signed model.Request → Type 0) (K : Signed model.Checkpoint → 
   silent : (m : Signed OrderMessage) → IsChecked no_keys m → (header m).tag < 5 → Known m
   silent m = go m.message m.auth
     where
-      go : (x : OrderMessage) (auth : List (List ℕ)) → IsChecked no_keys (record { message = x; auth = auth }) → (header (record { message = x; auth = auth })).tag < 5 → OfOrder x auth
+      go : (x : OrderMessage) (auth : Authenticator) → IsChecked no_keys (record { message = x; auth = auth }) → (header (record { message = x; auth = auth })).tag < 5 → OfOrder x auth
       go (PrePrepare proposal) auth passes small = λ s i. absurd (none_passes s (passes_at (request_is_signed no_keys) (requests_of proposal.batch) s passes i))
       go (Checkpoint c) auth passes small = absurd (omega (arith, small))
       go other auth passes small = tt
@@ -167,7 +176,7 @@ module _ (R : Signed model.Request → Type 0) (K : Signed model.Checkpoint → 
       (λ _. cond_both (settles c keeping) (record keeping { kept = filter (λ kept. nat_le c.number kept.number) keeping.kept; stable = Some c }) keeping (λ (k : Keeping). IsShownIf k.stable) (λ _. all) (λ _. shown))
       (λ _. shown)
     where
-      told_known : (number : ℕ) (digest : List ℕ) (m : OrderMessage) (auth : List (List ℕ)) (x : Signed model.Checkpoint) → told_as number digest m auth ≡ Some x → OfOrder m auth → K x
+      told_known : (number : ℕ) (digest : List ℕ) (m : OrderMessage) (auth : Authenticator) (x : Signed model.Checkpoint) → told_as number digest m auth ≡ Some x → OfOrder m auth → K x
       told_known number digest (Checkpoint c) auth x e is = cond_both ((c.number == number) && bytes_eq c.digest digest) (Some (record { message = c; auth = auth })) None (λ o. o ≡ Some x → K x)
           (λ _ same. subst K (some_is (record { message = c; auth = auth }) x same) is) (λ _ same. absurd cc) e
       told_known number digest (PrePrepare proposal) auth x e is = absurd cc
@@ -207,7 +216,7 @@ module _ (R : Signed model.Request → Type 0) (K : Signed model.Checkpoint → 
       let from = out_of_filter_map (λ (m : Signed OrderMessage). checkpoint_in m.message m.auth) of_low x i in
       told from.0.message from.0.auth x from.2 (filter_in Known (λ (m : Signed OrderMessage). is_of s.f s.low (header m)) s.log log from.0 from.1))
     where
-      told : (m : OrderMessage) (auth : List (List ℕ)) (x : Signed model.Checkpoint) → checkpoint_in m auth ≡ Some x → OfOrder m auth → K x
+      told : (m : OrderMessage) (auth : Authenticator) (x : Signed model.Checkpoint) → checkpoint_in m auth ≡ Some x → OfOrder m auth → K x
       told (Checkpoint c) auth x e is = subst K (some_is (record { message = c; auth = auth }) x e) is
       told (PrePrepare proposal) auth x e is = absurd cc
       told (Prepare vote) auth x e is = absurd cc
@@ -264,7 +273,7 @@ module _ (R : Signed model.Request → Type 0) (K : Signed model.Checkpoint → 
           | false ↦ record { brings = tt; offers = tt; pending = sound.pending; kept = sound.kept; stable = sound.stable; sends = none_in (IsBorne who) }
         ]
 
-    message_does : (node : Node) → Sound f who node → (m : Message) (auth : List (List ℕ)) → Bears (λ reply. Unit {0}) m auth
+    message_does : (node : Node) → Sound f who node → (m : Message) (auth : Authenticator) → Bears (λ reply. Unit {0}) m auth
         → Does node.order (message_deeds node (record { message = m; auth = auth }) m)
         (unless (message_refusal node (record { message = m; auth = auth }) m) node (message_delivered node (record { message = m; auth = auth }) m))
     message_does node sound (Request request) auth is =
@@ -415,7 +424,7 @@ module _ (R : Signed model.Request → Type 0) (K : Signed model.Checkpoint → 
           silent_late : (m : Signed OrderMessage) → ((header m).tag < 4 → ⊥) → (header m).tag < 5 → Known m
           silent_late m late small = go m.message m.auth (late) small
             where
-              go : (x : OrderMessage) (auth : List (List ℕ)) → ((header (record { message = x; auth = auth })).tag < 4 → ⊥) → (header (record { message = x; auth = auth })).tag < 5 → OfOrder x auth
+              go : (x : OrderMessage) (auth : Authenticator) → ((header (record { message = x; auth = auth })).tag < 4 → ⊥) → (header (record { message = x; auth = auth })).tag < 5 → OfOrder x auth
               go (PrePrepare proposal) auth late small = absurd (late (omega arith))
               go (Checkpoint c) auth late small = absurd (omega (arith, small))
               go other auth late small = tt
@@ -441,7 +450,7 @@ module _ (R : Signed model.Request → Type 0) (K : Signed model.Checkpoint → 
 
 -- as more is signed and sent
 module _ (R Q : Signed model.Request → Type 0) (K L : Signed model.Checkpoint → Type 0) (more : (s : Signed model.Request) → R s → Q s) (later : (c : Signed model.Checkpoint) → K c → L c) where
-  known_on : (m : OrderMessage) (auth : List (List ℕ)) → OfOrder R K m auth → OfOrder Q L m auth
+  known_on : (m : OrderMessage) (auth : Authenticator) → OfOrder R K m auth → OfOrder Q L m auth
   known_on (PrePrepare proposal) auth is = λ s i. more s (is s i)
   known_on (Checkpoint c) auth is = later (record { message = c; auth = auth }) is
   known_on other auth is = tt
@@ -449,7 +458,7 @@ module _ (R Q : Signed model.Request → Type 0) (K L : Signed model.Checkpoint 
   change_on : (s : Signed model.ViewChange) → OfChange R K s → OfChange Q L s
   change_on s is = ((λ c i r j. more r (is.0 c i r j)), λ c i. later c (is.1 c i))
 
-  pub bears_on : (Replies Others : model.Reply → Type 0) → ((reply : model.Reply) → Replies reply → Others reply) → (m : Message) (auth : List (List ℕ)) → Bears R K Replies m auth → Bears Q L Others m auth
+  pub bears_on : (Replies Others : model.Reply → Type 0) → ((reply : model.Reply) → Replies reply → Others reply) → (m : Message) (auth : Authenticator) → Bears R K Replies m auth → Bears Q L Others m auth
   bears_on Replies Others so (Request request) auth is = more (record { message = request; auth = auth }) is
   bears_on Replies Others so (Order m) auth is = known_on m auth is
   bears_on Replies Others so (ViewChange change) auth is = ((λ c i r j. more r (is.0 c i r j)), λ c i. later c (is.1 c i))

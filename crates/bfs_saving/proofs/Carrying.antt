@@ -5,6 +5,7 @@ use Rattle.std.specs.Prelude.{⊤, OnOk}
 use Rattle.bfs_model.specs.Bytes.Call.{◌>>=◌}
 use Rattle.bfs_model.specs.Server.Stored.{AreBytes, IsDouble}
 use Rattle.bfs_model.proofs.Public.{IsExact, chosen, some_is, went_on}
+use Rattle.bfs_auth.specs.declared.authenticators.Authenticator.{Authenticator}
 use Rattle.bfs_messages.specs.Messages as model
 use Rattle.bfs_messages.specs.Signing.{as_message}
 use Rattle.bfs_messages.specs.Spelling.{signed_text}
@@ -45,11 +46,11 @@ kind_exact {A} {to} {of} kind = made_exact (signed_of of) (as_message to) there 
     there : (s : Signed A) → signed_of of (as_message to s) ≡ Some s
     there s = ap (option_map (λ (message : A). record { message = message; auth = s.auth })) (kind.there s.message)
 
-    made : (o : Option A) (auth : List (List ℕ)) (s : Signed A) → option_map {U = Signed A} (λ message. record { message = message; auth = auth }) o ≡ Some s → (o ≡ Some s.message) × (auth ≡ s.auth)
+    made : (o : Option A) (auth : Authenticator) (s : Signed A) → option_map {U = Signed A} (λ message. record { message = message; auth = auth }) o ≡ Some s → (o ≡ Some s.message) × (auth ≡ s.auth)
     made None auth s e = absurd cc
     made (Some a) auth s e = let same = some_is (record { message = a; auth = auth }) s e in (ap (λ (x : Signed A). Some x.message) same, ap (λ (x : Signed A). x.auth) same)
 
-    alike : (m n : Message) (auth other : List (List ℕ)) → m ≡ n → auth ≡ other → ◌≡◌ {A = Signed Message} (record { message = m; auth = auth }) (record { message = n; auth = other })
+    alike : (m n : Message) (auth other : Authenticator) → m ≡ n → auth ≡ other → ◌≡◌ {A = Signed Message} (record { message = m; auth = auth }) (record { message = n; auth = other })
     alike m n auth other e d = rw (e, d)
 
     only : (m : Signed Message) (s : Signed A) → signed_of of m ≡ Some s → m ≡ as_message to s

@@ -1,11 +1,12 @@
 // Requests that have come, and which of them the node is given.
+use bfs_auth::Authenticator;
 use bfs_messages::{Message, Request, Signed};
 use bfs_node::{Class, Node};
 use bfs_types::{MOST_REQUESTS, Memory};
 use std::alloc::Global;
 use std::collections::{BTreeMap, BTreeSet};
 
-// what a request takes in a batch beside its call and its keyed hashes
+// what a request takes in a batch at most beside its call, and the keyed hashes or the signature that it has
 const REQUEST_BYTES: usize = 64;
 
 // the bytes of a keyed hash
@@ -114,24 +115,22 @@ struct Room {
     share: usize,
     count: usize,
     bytes: usize,
-    // the bytes of a request's keyed hashes
-    hashes: usize,
 }
 
 impl Room {
     fn at(alloc: Global, node: &Node, most_bytes: usize) -> Result<Room, Memory> {
-        let hashes = (node.f() as usize * 3 + 1) * HASH_BYTES;
         let mut room = Room {
             names: BTreeSet::new(alloc),
             counts: BTreeMap::new(alloc),
             share: node.share(),
             count: MOST_REQUESTS.saturating_sub(node.waiting().len()),
             bytes: most_bytes,
-            hashes,
         };
         for signed in node.waiting() {
             room.add(&signed.message)?;
-            room.bytes = room.bytes.saturating_sub(size_of(&signed.message, hashes));
+            room.bytes = room
+                .bytes
+                .saturating_sub(size_of(&signed.message, &signed.auth));
         }
         Ok(room)
     }
@@ -141,14 +140,14 @@ impl Room {
             return Ok(Place::Never);
         };
         match node.classify(request.client(), request.timestamp()) {
-            Class::New => self.place_for_new(request),
+            Class::New => self.place_for_new(request, &signed.auth),
             Class::Repeat => Ok(Place::Again),
             Class::Old | Class::Unknown => Ok(Place::Never),
         }
     }
 
     // Only one of each has a place. Of a client as many stay here as may wait at the node.
-    fn place_for_new(&mut self, request: &Request) -> Result<Place, Memory> {
+    fn place_for_new(&mut self, request: &Request, auth: &Authenticator) -> Result<Place, Memory> {
         let count = self.count_of(request.client());
         if self
             .names
@@ -158,7 +157,7 @@ impl Room {
             return Ok(Place::Never);
         }
         self.add(request)?;
-        let size = size_of(request, self.hashes);
+        let size = size_of(request, auth);
         if size > self.bytes || self.count == 0 || count >= self.share {
             return Ok(Place::Later);
         }
@@ -183,8 +182,12 @@ impl Room {
     }
 }
 
-fn size_of(request: &Request, hashes: usize) -> usize {
-    (request.call().len() + REQUEST_BYTES).saturating_add(hashes)
+fn size_of(request: &Request, auth: &Authenticator) -> usize {
+    let proof = match auth.signature() {
+        Some(bytes) => bytes.len(),
+        None => auth.entries().len() * HASH_BYTES,
+    };
+    request.call().len() + REQUEST_BYTES + proof
 }
 
 fn is_new(node: &Node, request: &Request) -> bool {

@@ -3,5 +3,6 @@ pub mod Settings
 pub mod Tables
 pub mod Document
 pub mod KeysDocument
+pub mod SigningDocument
 pub mod Outcomes
 pub mod Errors

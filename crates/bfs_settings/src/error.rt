@@ -2,7 +2,7 @@ ghost use Rattle.std.specs.Prelude.{◌≡◌};
 ghost use Rattle.bfs_settings.specs.Errors.{settings_error_code};
 
 use bfs_types::Memory;
-use std::alloc::AllocFailed;
+use std::alloc::{AllocError, AllocFailed};
 use thiserror::Error;
 
 /// Why there are no such settings.
@@ -44,6 +44,16 @@ impl<T: Drop> From<AllocFailed<T>> for SettingsError {
     ghost from_gives = { λ failed given. given ≡ error.Memory };
 
     fn from(_failed: AllocFailed<T>) -> SettingsError {
+        SettingsError::Memory
+    }
+}
+
+impl From<AllocError> for SettingsError {
+    ghost use Rattle.bfs_settings.specs.declared.error.SettingsError.TheVariants as error;
+
+    ghost from_gives = { λ _ given. given ≡ error.Memory };
+
+    fn from(_error: AllocError) -> SettingsError {
         SettingsError::Memory
     }
 }

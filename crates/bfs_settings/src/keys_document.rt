@@ -14,7 +14,7 @@ use hex::FromHex;
 use std::alloc::Global;
 use toml::{Table, Value};
 
-fn key_in(value: &Value) -> Option<[u8; 32]>
+pub(crate) fn key_in(value: &Value) -> Option<[u8; 32]>
     ensures { result ≡ key_in (view value.now) }
 {
     <[u8; 32]>::from_hex(value.as_str()?).ok()

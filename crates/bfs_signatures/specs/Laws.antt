@@ -14,7 +14,7 @@ PassesLike = (public_key leaf other_leaf bytes other_bytes : List ℕ)
     → root_signature_of bytes ≡ root_signature_of other_bytes
     → is_signature_of_leaf public_key leaf bytes ≡ is_signature_of_leaf public_key other_leaf other_bytes
 
--- of every private key of one to three levels, each of its indexes signs each of some texts
+-- of every private key of one to eight levels, each of its indexes signs each of some texts
 abbrev pub SignedTextsVerify : Type 0
 SignedTextsVerify = (key : HssKey) (index : ℕ) (texts : List (List ℕ)) (place : ℕ) (text bytes : List ℕ)
     → length key.first.id ≡ 16

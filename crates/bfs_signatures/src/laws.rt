@@ -7,7 +7,7 @@ pub fn passes_like()
     ensures { PassesLike }
 {}
 
-/// What a private key of one to three levels signs of some texts, by any of its indexes, passes by its public key: each signature, with its text.
+/// What a private key of one to eight levels signs of some texts, by any of its indexes, passes by its public key: each signature, with its text.
 #[tactic(auto, using(crate::proofs::Signed::signed_texts_verify))]
 pub fn what_is_signed_verifies()
     ensures { SignedTextsVerify }

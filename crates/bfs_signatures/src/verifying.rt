@@ -11,7 +11,7 @@ pub const MOST_TEXTS: usize = 4096;
 // how many levels a tree has at most above its leaves
 const MOST_HEIGHT: u32 = 12;
 
-/// Whether these are bytes of a public key of one to three levels, and of a signature of the text with that leaf by it. `false` where they are malformed in any
+/// Whether these are bytes of a public key of one to eight levels, and of a signature of the text with that leaf by it. `false` where they are malformed in any
 /// way: too short, of a tree with room for more than `MOST_TEXTS`, of a leaf that the tree has not, or as `lms::hss_verify` says. It takes no memory.
 pub fn verify_leaf(public_key: &[u8], leaf: &[u8; 32], signature: &[u8]) -> bool
     ensures { result ≡ is_signature_of_leaf public_key.now leaf.now signature.now }

@@ -2,7 +2,7 @@
 use crate::past::{checkpoints_of, has_sender, prepares_on, proposal_on};
 use crate::sets::Set;
 use crate::world::World;
-use bfs_auth::{Authenticator, Keys, sign_text_for_client};
+use bfs_auth::{Authenticator, KeyedHashes, Keys, sign_text_for_client};
 use bfs_messages::{
     Checkpoint, Message, NewView, OrderMessage, OrderedBatch, PrePrepare, PreparedBatch, Reply,
     Signed, ViewChange, Vote, sign_new_view, sign_order, sign_prepare, sign_proposal,
@@ -34,29 +34,34 @@ pub fn batch_of(alloc: Global, second: u32) -> Result<Arc<OrderedBatch>, Memory>
 /// The message with entries that are wrong for some receivers.
 pub fn spoiled<T: Drop>(alloc: Global, signed: Signed<T>, wrong: Set) -> Result<Signed<T>, Memory> {
     let Signed { message, auth } = signed;
-    let mut made = Authenticator::new(alloc);
+    let mut made = KeyedHashes::new(alloc);
     for (place, entry) in auth.entries().iter().enumerate() {
         let mut bytes = *entry;
         if wrong.has(place) {
             bytes[31] ^= 1;
         }
-        if made.entries().len() < 31 {
+        if made.as_slice().len() < 31 {
             made.push(bytes)?;
         }
     }
     Ok(Signed {
         message,
-        auth: made,
+        auth: Authenticator::Hashes(made),
     })
 }
 
 impl Liar {
     pub fn new(alloc: Global, members: Members, number: u32) -> Result<Liar, Memory> {
-        Ok(Liar {
+        Ok(Liar::with_keys(alloc, number, members.keys_of(alloc, number)?))
+    }
+
+    /// The replica of that number, with keys of its own.
+    pub fn with_keys(alloc: Global, number: u32, keys: Keys) -> Liar {
+        Liar {
             alloc,
             number,
-            keys: members.keys_of(alloc, number)?,
-        })
+            keys,
+        }
     }
 
     fn sign(&self, message: OrderMessage) -> Result<Signed<Message>, Memory> {

@@ -1,5 +1,5 @@
 //! Keyed hashes that are wrong.
-use bfs_auth::{Authenticator, MOST_REPLICAS};
+use bfs_auth::{Authenticator, KeyedHashes, MOST_REPLICAS};
 use bfs_types::Memory;
 use std::alloc::Global;
 
@@ -9,15 +9,15 @@ pub fn with_changed_entry(
     auth: &Authenticator,
     replica: usize,
 ) -> Result<Authenticator, Memory> {
-    let mut changed = Authenticator::new(alloc);
+    let mut changed = KeyedHashes::new(alloc);
     for (place, entry) in auth.entries().iter().enumerate() {
         let mut entry = *entry;
         if place == replica {
             entry[0] ^= 1;
         }
-        if changed.entries().len() < MOST_REPLICAS {
+        if changed.as_slice().len() < MOST_REPLICAS {
             changed.push(entry)?;
         }
     }
-    Ok(changed)
+    Ok(Authenticator::Hashes(changed))
 }

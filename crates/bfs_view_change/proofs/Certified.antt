@@ -4,6 +4,7 @@ use Rattle.std.specs.List.{All, Contains, cons_option, filter, filter_map}
 use Rattle.std.proofs.lemmas.Bool.{and_from, eqb-true, eq-eqb, lt-ltb}
 use Rattle.std.proofs.lemmas.List.Elements.{All-head, All-tail}
 use Rattle.std.proofs.lemmas.Slice.Eq.{bytes_eq-Decides}
+use Rattle.bfs_auth.specs.declared.authenticators.Authenticator.{Authenticator}
 use Rattle.bfs_votes.specs.Votes.{Header, backups, is_backed, primary, replicas, says, told}
 use Rattle.bfs_log.specs.Headers.{header, message_header}
 use Rattle.bfs_log.specs.Logs.{Log, headers}
@@ -25,10 +26,10 @@ pub record Is {A : Type 0} (kind : A → OrderMessage) (found : Option (Signed A
   pub is : found ≡ Some signed
   pub same : as_message kind signed ≡ m
 
-abbrev pub IsKind : {A : Type 0} → (tag : ℕ) → (A → OrderMessage) → (OrderMessage → List (List ℕ) → Option (Signed A)) → Type 0
+abbrev pub IsKind : {A : Type 0} → (tag : ℕ) → (A → OrderMessage) → (OrderMessage → Authenticator → Option (Signed A)) → Type 0
 IsKind tag kind of = (m : Signed OrderMessage) → (header m).tag ≡ tag → Is kind (of m.message m.auth) m
 
-pub again : {A : Type 0} (tag : ℕ) (kind : A → OrderMessage) (of : OrderMessage → List (List ℕ) → Option (Signed A)) → IsKind tag kind of
+pub again : {A : Type 0} (tag : ℕ) (kind : A → OrderMessage) (of : OrderMessage → Authenticator → Option (Signed A)) → IsKind tag kind of
     → (ms : Log) → All (λ m. (header m).tag ≡ tag) ms → map (as_message kind) (filter_map (λ m. of m.message m.auth) ms) ≡ ms
 again tag kind of is [] all = refl
 again {A} tag kind of is (m ∷ ms) all =
@@ -40,7 +41,7 @@ again {A} tag kind of is (m ∷ ms) all =
 pub prepare_kind : IsKind 3 Prepare prepare_in
 prepare_kind m e = go m.message m.auth e
   where
-    go : (message : OrderMessage) (auth : List (List ℕ)) → (message_header message).tag ≡ 3 → Is Prepare (prepare_in message auth) (record { message = message; auth = auth })
+    go : (message : OrderMessage) (auth : Authenticator) → (message_header message).tag ≡ 3 → Is Prepare (prepare_in message auth) (record { message = message; auth = auth })
     go (Prepare vote) auth e = record { signed = record { message = vote; auth = auth }; is = refl; same = refl }
     go (PrePrepare proposal) auth e = absurd (omega (arith, e))
     go (Commit vote) auth e = absurd (omega (arith, e))
@@ -49,7 +50,7 @@ prepare_kind m e = go m.message m.auth e
 pub proposal_kind : IsKind 2 PrePrepare proposal_in
 proposal_kind m e = go m.message m.auth e
   where
-    go : (message : OrderMessage) (auth : List (List ℕ)) → (message_header message).tag ≡ 2 → Is PrePrepare (proposal_in message auth) (record { message = message; auth = auth })
+    go : (message : OrderMessage) (auth : Authenticator) → (message_header message).tag ≡ 2 → Is PrePrepare (proposal_in message auth) (record { message = message; auth = auth })
     go (PrePrepare proposal) auth e = record { signed = record { message = proposal; auth = auth }; is = refl; same = refl }
     go (Prepare vote) auth e = absurd (omega (arith, e))
     go (Commit vote) auth e = absurd (omega (arith, e))
@@ -58,7 +59,7 @@ proposal_kind m e = go m.message m.auth e
 pub checkpoint_kind : IsKind 5 Checkpoint checkpoint_in
 checkpoint_kind m e = go m.message m.auth e
   where
-    go : (message : OrderMessage) (auth : List (List ℕ)) → (message_header message).tag ≡ 5 → Is Checkpoint (checkpoint_in message auth) (record { message = message; auth = auth })
+    go : (message : OrderMessage) (auth : Authenticator) → (message_header message).tag ≡ 5 → Is Checkpoint (checkpoint_in message auth) (record { message = message; auth = auth })
     go (PrePrepare proposal) auth e = absurd (omega (arith, e))
     go (Prepare vote) auth e = absurd (omega (arith, e))
     go (Commit vote) auth e = absurd (omega (arith, e))

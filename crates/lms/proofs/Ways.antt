@@ -1,14 +1,16 @@
 -- The way from the first tree of a key of several levels to the last.
-use Rattle.std.proofs.Common.{◌≡◌, ◌≤◌, ◌+◌, ◌*◌, ◌/◌, ◌%◌, ◌^◌, ℕ, suc, Bool, true, List, [], ◌∷◌, ◌++◌, length, take, Some, get_or, refl, sym, ap, ◌∙◌, arith, rules, append_assoc, length-append}
+use Rattle.std.proofs.Common.{◌≡◌, ◌<◌, ◌≤◌, ◌+◌, ◌*◌, ◌/◌, ◌%◌, ◌^◌, ℕ, suc, Bool, true, List, [], ◌∷◌, ◌++◌, length, take, Some, get_or, refl, sym, ap, ◌∙◌, arith, rules, append_assoc, length-append}
+use Rattle.std.specs.Bool.{Decides}
 use Rattle.std.specs.List.{flat_map}
 use Rattle.std.specs.Prelude.{◌==◌, ◌&&◌, bytes_eq, option_map, sum_by}
-use Rattle.std.proofs.lemmas.Bool.{and_parts, eqb-true}
+use Rattle.std.proofs.lemmas.Bool.{and_from, and_parts, eqb-true}
 use Rattle.std.proofs.lemmas.List.{get_or-take, get_or_push, length-take, length-take-le}
 use Rattle.std.proofs.lemmas.List.Sums.{sum_by-cons}
-use Rattle.std.proofs.lemmas.Nat.{pow-add}
+use Rattle.std.proofs.Math.Nat.{div-eq_of_lt, div-lt_iff_lt-mul, mod-eq_of_lt}
+use Rattle.std.proofs.lemmas.Nat.{div_below, mod_below, pow-add, pow_pos}
 use Rattle.std.proofs.lemmas.Option.{slice_get_read}
 use Rattle.std.proofs.lemmas.Slice.Eq.{bytes_eq-Decides}
-use denote.Enum.Bare.{same_true, sameb}
+use denote.Enum.Bare.{same_true, sameb, true_same}
 use Rattle.lms.specs.contracts.types.LmsType.{the_type as lms_types}
 use Rattle.lms.specs.contracts.types.OtsType.{the_type as ots_types}
 use Rattle.lms.specs.declared.types.TreeTypes.{TreeTypes}
@@ -51,39 +53,90 @@ same_place a b e =
     let leaf = eqb-true a.leaf b.leaf second.1 in
     λ i. record { parent = parent i; types = types i; leaf = leaf i }
 
+pub key_decides : (a b : PrivateKey) → Decides (is_key a b) (a ≡ b)
+key_decides a b = (
+  same_key a b,
+  λ e. and_from (sameb lms_types a.lms b.lms) (sameb ots_types a.ots b.ots && (bytes_eq a.id b.id && bytes_eq a.seed b.seed))
+      (true_same lms_types a.lms b.lms (ap (λ k. k.lms) e))
+      (and_from (sameb ots_types a.ots b.ots) (bytes_eq a.id b.id && bytes_eq a.seed b.seed) (true_same ots_types a.ots b.ots (ap (λ k. k.ots) e))
+      (and_from (bytes_eq a.id b.id) (bytes_eq a.seed b.seed) ((bytes_eq-Decides a.id b.id).1 (ap (λ k. k.id) e)) ((bytes_eq-Decides a.seed b.seed).1 (ap (λ k. k.seed) e)))),
+)
+
+pub types_decide : (a b : TreeTypes) → Decides (sameb lms_types a.lms b.lms && sameb ots_types a.ots b.ots) (a ≡ b)
+types_decide a b = (
+  same_types a b,
+  λ e. and_from (sameb lms_types a.lms b.lms) (sameb ots_types a.ots b.ots) (true_same lms_types a.lms b.lms (ap (λ t. t.lms) e)) (true_same ots_types a.ots b.ots (ap (λ t. t.ots) e)),
+)
+
 -- One level down -----------------------------------------------------------------------------------------------------------
 
 pub count_cons : (types : TreeTypes) (below : List TreeTypes) → count_below (types ∷ below) ≡ leaf_count types.lms * count_below below
 count_cons types below =
     ap (λ k. 2 ^ k) (sum_by-cons (λ types. height types.lms) types below) ∙ pow-add 2 (height types.lms) (sum_by (λ types. height types.lms) below)
 
-places_cons : (key : PrivateKey) (types : TreeTypes) (below : List TreeTypes) (index count : ℕ) → count ≡ count_below (types ∷ below)
-    → places_of key (types ∷ below) index ≡ record { parent = key; types = types; leaf = index / count } ∷ places_of (child_key key types (index / count)) below (index % count)
+places_cons : (key : PrivateKey) (types : TreeTypes) (below : List TreeTypes) (index leaf left : ℕ) → leaf ≡ index / count_below (types ∷ below) → left ≡ index % count_below (types ∷ below)
+    → places_of key (types ∷ below) index ≡ record { parent = key; types = types; leaf = leaf } ∷ places_of (child_key key types leaf) below left
 unfolding places_of
-places_cons key types below index count e =
-    ap (λ n. record { parent = key; types = types; leaf = index / n } ∷ places_of (child_key key types (index / n)) below (index % n)) (sym e)
+places_cons key types below index leaf left e f =
+    ap (λ n. record { parent = key; types = types; leaf = n } ∷ places_of (child_key key types n) below (index % count_below (types ∷ below))) (sym e)
+    ∙ ap (λ n. record { parent = key; types = types; leaf = leaf } ∷ places_of (child_key key types leaf) below n) (sym f)
 
-leaf_cons : (types : TreeTypes) (below : List TreeTypes) (index count : ℕ) → count ≡ count_below (types ∷ below)
-    → last_leaf (types ∷ below) index ≡ last_leaf below (index % count)
+leaf_cons : (types : TreeTypes) (below : List TreeTypes) (index left : ℕ) → left ≡ index % count_below (types ∷ below)
+    → last_leaf (types ∷ below) index ≡ last_leaf below left
 unfolding last_leaf
-leaf_cons types below index count e = ap (λ n. last_leaf below (index % n)) (sym e)
+leaf_cons types below index left f = ap (last_leaf below) (sym f)
 
-last_cons : (key : PrivateKey) (types : TreeTypes) (below : List TreeTypes) (index count : ℕ) → count ≡ count_below (types ∷ below)
-    → last_key key (types ∷ below) index ≡ last_key (child_key key types (index / count)) below (index % count)
+last_cons : (key : PrivateKey) (types : TreeTypes) (below : List TreeTypes) (index leaf left : ℕ) → leaf ≡ index / count_below (types ∷ below) → left ≡ index % count_below (types ∷ below)
+    → last_key key (types ∷ below) index ≡ last_key (child_key key types leaf) below left
 unfolding last_key
-last_cons key types below index count e = ap (λ n. last_key (child_key key types (index / n)) below (index % n)) (sym e)
+last_cons key types below index leaf left e f =
+    ap (λ n. last_key (child_key key types n) below (index % count_below (types ∷ below))) (sym e) ∙ ap (last_key (child_key key types leaf) below) (sym f)
 
-pub places_down : (key : PrivateKey) (types : TreeTypes) (all below : List TreeTypes) (index count : ℕ) → all ≡ types ∷ below → count ≡ count_below (types ∷ below)
-    → places_of key all index ≡ record { parent = key; types = types; leaf = index / count } ∷ places_of (child_key key types (index / count)) below (index % count)
-places_down key types all below index count split e = ap (λ (l : List TreeTypes). places_of key l index) split ∙ places_cons key types below index count e
+quotient_of : (types : TreeTypes) (all below : List TreeTypes) (index leaf : ℕ) → all ≡ types ∷ below → leaf ≡ index / count_below all → leaf ≡ index / count_below (types ∷ below)
+quotient_of types all below index leaf split e = e ∙ ap (λ (l : List TreeTypes). index / count_below l) split
 
-pub leaf_down : (types : TreeTypes) (all below : List TreeTypes) (index count : ℕ) → all ≡ types ∷ below → count ≡ count_below (types ∷ below)
-    → last_leaf all index ≡ last_leaf below (index % count)
-leaf_down types all below index count split e = ap (λ (l : List TreeTypes). last_leaf l index) split ∙ leaf_cons types below index count e
+remainder_of : (types : TreeTypes) (all below : List TreeTypes) (index left : ℕ) → all ≡ types ∷ below → left ≡ index % count_below all → left ≡ index % count_below (types ∷ below)
+remainder_of types all below index left split f = f ∙ ap (λ (l : List TreeTypes). index % count_below l) split
 
-pub last_down : (key : PrivateKey) (types : TreeTypes) (all below : List TreeTypes) (index count : ℕ) → all ≡ types ∷ below → count ≡ count_below (types ∷ below)
-    → last_key key all index ≡ last_key (child_key key types (index / count)) below (index % count)
-last_down key types all below index count split e = ap (λ (l : List TreeTypes). last_key key l index) split ∙ last_cons key types below index count e
+pub places_down : (key : PrivateKey) (types : TreeTypes) (all below : List TreeTypes) (index leaf left : ℕ) → all ≡ types ∷ below
+    → leaf ≡ index / count_below all → left ≡ index % count_below all
+    → places_of key all index ≡ record { parent = key; types = types; leaf = leaf } ∷ places_of (child_key key types leaf) below left
+places_down key types all below index leaf left split e f =
+    ap (λ (l : List TreeTypes). places_of key l index) split
+    ∙ places_cons key types below index leaf left (quotient_of types all below index leaf split e) (remainder_of types all below index left split f)
+
+pub leaf_down : (types : TreeTypes) (all below : List TreeTypes) (index left : ℕ) → all ≡ types ∷ below → left ≡ index % count_below all
+    → last_leaf all index ≡ last_leaf below left
+leaf_down types all below index left split f =
+    ap (λ (l : List TreeTypes). last_leaf l index) split ∙ leaf_cons types below index left (remainder_of types all below index left split f)
+
+pub last_down : (key : PrivateKey) (types : TreeTypes) (all below : List TreeTypes) (index leaf left : ℕ) → all ≡ types ∷ below
+    → leaf ≡ index / count_below all → left ≡ index % count_below all
+    → last_key key all index ≡ last_key (child_key key types leaf) below left
+last_down key types all below index leaf left split e f =
+    ap (λ (l : List TreeTypes). last_key key l index) split
+    ∙ last_cons key types below index leaf left (quotient_of types all below index leaf split e) (remainder_of types all below index left split f)
+
+-- what is left is an index below the leaf
+pub left_below : (types : TreeTypes) (all below : List TreeTypes) (index left : ℕ) → all ≡ types ∷ below → left ≡ index % count_below all
+    → left < leaf_count types.lms * count_below below
+left_below types all below index left split f =
+    omega (arith, remainder_of types all below index left split f, mod_below index (count_below (types ∷ below)) (pow_pos _), count_cons types below)
+
+-- the leaf is one of the tree
+pub leaf_within : (leaves : ℕ) (below : List TreeTypes) (index leaf : ℕ) → index < leaves * count_below below → leaf ≡ index / count_below below → leaf < leaves
+leaf_within leaves below index leaf fits e = omega (arith, e, div_below index (count_below below) leaves (pow_pos _) fits)
+
+-- the index is one of the key
+pub within_leaf : (leaves : ℕ) (below : List TreeTypes) (index leaf : ℕ) → leaf < leaves → leaf ≡ index / count_below below → index < leaves * count_below below
+within_leaf leaves below index leaf fits e = (div-lt_iff_lt-mul (pow_pos _)).0 (omega (arith, fits, e))
+
+-- more texts are signed below than there are indexes
+pub no_quotient : (below : List TreeTypes) (index : ℕ) → index < 2 ^ 64 → 2 ^ 64 ≤ count_below below → index / count_below below ≡ 0
+no_quotient below index fits many = div-eq_of_lt (omega (arith, fits, many))
+
+pub all_left : (below : List TreeTypes) (index : ℕ) → index < 2 ^ 64 → 2 ^ 64 ≤ count_below below → index % count_below below ≡ index
+all_left below index fits many = mod-eq_of_lt (omega (arith, fits, many))
 
 -- The last level -----------------------------------------------------------------------------------------------------------
 

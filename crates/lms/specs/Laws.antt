@@ -15,7 +15,7 @@ SignedVerifies = (key : PrivateKey) (leaf : ℕ) (text : List ℕ)
     → leaf < leaf_count key.lms
     → verifies (public_key_bytes (public_key key)) text (signature_of key leaf text) ≡ true
 
--- of every private key of one to three levels, each of its indexes signs every text
+-- of every private key of one to eight levels, each of its indexes signs every text
 abbrev pub HssSignedVerifies : Type 0
 HssSignedVerifies = (key : HssKey) (index : ℕ) (text : List ℕ)
     → length key.first.id ≡ 16

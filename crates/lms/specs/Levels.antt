@@ -1,5 +1,5 @@
--- Keys of several levels (HSS, RFC 8554 section 6): the tree of each level signs the public key of the next, and the last one texts. The standard has up to
--- eight levels; what has more than three is malformed here.
+-- Keys of several levels (HSS, RFC 8554 section 6): the tree of each level signs the public key of the next, and the last one texts. What has more
+-- than eight levels is malformed.
 use Rattle.std.specs.Prelude.{ℕ, zero, suc, ◌+◌, ◌==◌, ◌&&◌, Bool, false, List, ◌++◌, length, take, drop, nat_le, nat_lt, Option, Some, None, option_map, if◌then◌else◌}
 use Rattle.std.specs.Int.{to_be_bytes, w32}
 use Rattle.lms.specs.declared.public_key.PublicKey.{PublicKey}
@@ -9,7 +9,7 @@ use Rattle.lms.specs.Keys.{is_formed, public_key_bytes, public_key_in, signature
 use Rattle.lms.specs.Verifying.{is_signed}
 
 abbrev pub most_levels : ℕ
-most_levels = 3
+most_levels = 8
 
 abbrev pub hss_public_key_bytes : HssPublicKey → List ℕ
 hss_public_key_bytes key = to_be_bytes w32 key.levels ++ public_key_bytes key.key

@@ -5,10 +5,10 @@ use crate::bytes::{put_at, word_at};
 use crate::public_key::PublicKey;
 use crate::verifying::{is_formed, signature_length};
 
-/// How many levels a key has at most. The standard has eight.
-pub const MOST_LEVELS: u32 = 3;
+/// How many levels a key has at most (RFC 8554 section 6).
+pub const MOST_LEVELS: u32 = 8;
 
-/// A public key of one to three levels (HSS, RFC 8554 section 6.1): that of its first tree.
+/// A public key of one to eight levels (HSS, RFC 8554 section 6.1): that of its first tree.
 #[derive(Clone, Copy, Debug, PartialEq, Eq)]
 pub struct HssPublicKey {
     /// How many levels it has.
@@ -17,8 +17,8 @@ pub struct HssPublicKey {
     pub key: PublicKey,
 }
 
-/// Whether these are bytes of a public key of one to three levels, and of a signature of the text by it (RFC 8554 section 6.3). `false` where they are malformed
-/// in any way, as `verify` says, or tell different numbers of levels, or more than three. It takes no memory.
+/// Whether these are bytes of a public key of one to eight levels, and of a signature of the text by it (RFC 8554 section 6.3). `false` where they are malformed
+/// in any way, as `verify` says, or tell different numbers of levels, or more than eight. It takes no memory.
 pub fn hss_verify(public_key: &[u8], text: &[u8], signature: &[u8]) -> bool
     ensures { result ≡ hss_verifies public_key.now text.now signature.now }
 {
@@ -32,7 +32,7 @@ impl HssPublicKey {
     /// How many bytes a public key has.
     pub const LENGTH: usize = 60;
 
-    /// The public key that the bytes are. `None` where they are not 60, tell no levels or more than three, or hold no public key of a tree.
+    /// The public key that the bytes are. `None` where they are not 60, tell no levels or more than eight, or hold no public key of a tree.
     pub fn from_bytes(bytes: &[u8]) -> Option<HssPublicKey>
         ensures { result ≡ hss_public_key_in bytes.now }
     {

@@ -7,7 +7,7 @@ pub fn what_is_signed_verifies()
     ensures { SignedVerifies }
 {}
 
-/// What a private key of one to three levels signs by any of its indexes passes by its public key.
+/// What a private key of one to eight levels signs by any of its indexes passes by its public key.
 #[tactic(auto, using(crate::proofs::SignedLevels::hss_signed_verifies))]
 pub fn what_levels_sign_verifies()
     ensures { HssSignedVerifies }

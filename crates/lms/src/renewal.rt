@@ -1,5 +1,5 @@
 // The trees that sign with an index, made where they are not kept.
-ghost use Rattle.std.specs.Prelude.{◌≡◌, ◌+◌, ◌*◌, ◌<◌, ◌≤◌, [], ◌∷◌, ◌++◌, length, max, take, IfOk, OnOk, Some};
+ghost use Rattle.std.specs.Prelude.{◌≡◌, ◌+◌, ◌*◌, ◌/◌, ◌%◌, ◌^◌, ◌<◌, ◌≤◌, [], ◌∷◌, ◌++◌, length, max, take, IfNone, IfOk, IfSome, OnOk, Some};
 ghost use Rattle.lms.specs.Levels.{most_levels};
 ghost use Rattle.lms.specs.Signers.{count_below, key_at, last_key, last_leaf, places_of};
 ghost use Rattle.lms.specs.Types.{leaf_count};
@@ -11,20 +11,34 @@ use crate::tree::Tree;
 use crate::types::TreeTypes;
 use std::alloc::{AllocError, Global};
 
-// how many texts are signed below one leaf
-pub(crate) fn count_below(below: &[TreeTypes]) -> u64
+// how many texts are signed below one leaf. `None` where they are more than indexes are told apart.
+fn count_below(below: &[TreeTypes]) -> Option<u64>
     requires { length below.now < most_levels }
-    ensures value { result ≡ count_below below.now }
-    ensures some { 0 < result }
+    ensures some { IfSome result (λ count. (count ≡ count_below below.now) × (0 < count)) }
+    ensures none { IfNone result (2 ^ 64 ≤ count_below below.now) }
 {
     let mut bits = 0;
     for types in below {
         bits += types.lms.height();
     }
-    1 << bits
+    if bits < 64 { Some(1 << bits) } else { None }
+}
+
+// the leaf that signs with an index, and what is left of the index below it
+#[tactic(auto, using(crate::proofs::Ways::no_quotient, crate::proofs::Ways::all_left))]
+pub(crate) fn split_index(below: &[TreeTypes], index: u64) -> (u64, u64)
+    requires { length below.now < most_levels }
+    ensures leaf { result.0 ≡ index / count_below below.now }
+    ensures left { result.1 ≡ index % count_below below.now }
+{
+    match count_below(below) {
+        Some(count) => (index / count, index % count),
+        None => (0, index),
+    }
 }
 
 // makes the trees those that sign with the index, and gives the leaf of the last one
+#[tactic(auto, using(crate::proofs::Ways::leaf_within))]
 pub(crate) fn renew(
     alloc: Global,
     first: &Tree,
@@ -44,15 +58,15 @@ pub(crate) fn renew(
     let mut key = *first.key();
     let mut rest = index;
     for level in 0..below.len() {
-        let count = count_below(&below[level..]);
+        let (leaf, left) = split_index(&below[level..], rest);
         let place = Place {
             parent: key,
             types: below[level],
-            leaf: (rest / count) as u32,
+            leaf: leaf as u32,
         };
         renew_link(alloc, first, links, level, place)?;
         key = place.key();
-        rest %= count;
+        rest = left;
     }
     Ok(rest as u32)
 }
@@ -140,15 +154,15 @@ fn key_behind(
         return None;
     }
     let mut key = first;
-    let mut rest = index.checked_add(count_below(&below[level..]))?;
+    let mut rest = index.checked_add(count_below(&below[level..])?)?;
     for number in 0..=level {
-        let count = count_below(&below[number..]);
-        let leaf = u32::try_from(rest / count).ok()?;
+        let (leaf, left) = split_index(&below[number..], rest);
+        let leaf = u32::try_from(leaf).ok()?;
         if leaf >= key.lms.leaf_count() {
             return None;
         }
         key = key.child(below[number], leaf);
-        rest %= count;
+        rest = left;
     }
     Some(key)
 }

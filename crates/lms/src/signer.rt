@@ -6,13 +6,13 @@ use crate::error::SignError;
 use crate::hss::HssPublicKey;
 use crate::links::{Link, put_heads, tree_at};
 use crate::private_key::PrivateKey;
-use crate::renewal::{count_below, grow_next, renew};
+use crate::renewal::{grow_next, renew, split_index};
 use crate::tree::Tree;
 use crate::types::TreeTypes;
 use std::alloc::{AllocError, Global};
 use std::marker::Model;
 
-/// A private key of one to three levels (HSS, RFC 8554 section 6), with the trees that sign by its last index, and those that sign next, which grow a leaf with each
+/// A private key of one to eight levels (HSS, RFC 8554 section 6), with the trees that sign by its last index, and those that sign next, which grow a leaf with each
 /// signature. To a contract it is its key: the private key of the first tree, from whose seed all others are made, and the types of the trees of the levels below.
 #[derive(Drop)]
 pub struct Signer {
@@ -59,11 +59,20 @@ impl Signer {
         }
     }
 
+    /// Whether its key is this one: the private key of the first tree, and the types of the trees of the levels below.
+    pub fn is_of(&self, first: &PrivateKey, below: &[TreeTypes]) -> bool
+        ensures { IsTrue result ↔ (self.now ≡ record { first = first.now; below = below.now }) }
+    {
+        *self.first.key() == *first && *self.below == *below
+    }
+
     /// Whether the key has the index: it has as many as its trees of the last level have leaves, by the product of all levels' leaves.
+    #[tactic(auto, using(crate::proofs::Ways::leaf_within, crate::proofs::Ways::within_leaf))]
     pub fn has_index(&self, index: u64) -> bool
         ensures { IsTrue result ↔ (index < index_count self.now) }
     {
-        index / count_below(&self.below) < u64::from(self.first.key().lms.leaf_count())
+        let (leaf, _) = split_index(&self.below, index);
+        leaf < u64::from(self.first.key().lms.leaf_count())
     }
 
     /// The signature of a text by an index (RFC 8554 section 6.2). An index may sign one text only: who has signatures of two texts by one index can make more. `NoIndex`

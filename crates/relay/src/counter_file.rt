@@ -1,7 +1,8 @@
 use anyhow::Error;
 use bfs_relaying::Reserve;
-use std::fs::{File, OpenFile};
+use std::fs::{File, OpenFile, OpenOptions};
 use std::io::Write;
+use std::os::unix::fs::OpenOptionsExt;
 use std::path::Path;
 use std::rt::Runtime;
 use std::{fs, io};
@@ -57,7 +58,12 @@ impl<R: Runtime> Reserve for CounterFile<'_, R> {
 }
 
 fn write_number<R: Runtime>(rt: &R, path: &str, number: u64) -> io::Result<()> {
-    let mut file = File::create(rt, path)?;
+    let mut file = OpenOptions::new()
+        .write(true)
+        .create(true)
+        .truncate(true)
+        .mode(0o600)
+        .open(rt, path)?;
     write!(file, "{number}\n")?;
     file.sync_all()
 }

@@ -1,16 +1,20 @@
-//! The relay of the file service: `relay CLUSTER_TOML COUNTER_FILE CLIENT_TOML..`. Turns come on standard input, and what it tells of each goes to standard
-//! output. It speaks for the clients whose keys it is given, and keeps the number of their next timestamp in the counter's file. docs/SERVICE.md says more.
+//! The relay of the file service: `relay CLUSTER_TOML COUNTER_FILE [--key RELAY_KEY INDEX_FILE] CLIENT_TOML..`. Turns come on standard input, and what it tells of
+//! each goes to standard output. It speaks for the clients whose keys it is given, and keeps the number of their next timestamp in the counter's file. Where the
+//! cluster's clients sign their requests, it signs by the relay's key, and keeps the number of its next index in the index file. docs/SERVICE.md says more.
 #![tactic(auto)]
 
 mod counter_file;
+mod signer;
 
 use crate::counter_file::CounterFile;
+use crate::signer::signer_at;
 use anyhow::{Context, Error};
 use bfs_auth::{Keys, Principal};
 use bfs_deployment::{Deployment, parse_deployment};
-use bfs_filter::serve;
+use bfs_filter::{Machine, serve};
 use bfs_relaying::Reserving;
 use bfs_settings::parse_keys;
+use bfs_signing::Signing;
 use std::io::BufReader;
 use std::process::ExitCode;
 use std::rt::Runtime;
@@ -29,37 +33,119 @@ fn main(rt: HostRuntime) -> ExitCode {
     }
 }
 
+/// The files that a relay is given, by their paths.
+#[derive(Clone, Copy)]
+struct Files<'a> {
+    cluster: &'a str,
+    counter: &'a str,
+    signing: Option<SigningFiles<'a>>,
+    clients: &'a [String],
+}
+
+/// Those of one that signs.
+#[derive(Clone, Copy)]
+struct SigningFiles<'a> {
+    key: &'a str,
+    indexes: &'a str,
+}
+
+const USAGE: &str =
+    "usage: relay CLUSTER_TOML COUNTER_FILE [--key RELAY_KEY INDEX_FILE] CLIENT_TOML..";
+
+fn files_in(words: &[String]) -> Option<Files<'_>> {
+    let [_, cluster, counter, rest @ ..] = words else {
+        return None;
+    };
+    let (signing, clients) = signing_files_in(rest)?;
+    if clients.is_empty() {
+        return None;
+    }
+    Some(Files {
+        cluster: cluster.as_str(),
+        counter: counter.as_str(),
+        signing,
+        clients,
+    })
+}
+
+// and what stands behind them
+fn signing_files_in(words: &[String]) -> Option<(Option<SigningFiles<'_>>, &[String])> {
+    match words {
+        [option, key, indexes, rest @ ..] if option.as_str() == "--key" => {
+            let files = SigningFiles {
+                key: key.as_str(),
+                indexes: indexes.as_str(),
+            };
+            Some((Some(files), rest))
+        }
+        [option, ..] if option.as_str() == "--key" => None,
+        _ => Some((None, words)),
+    }
+}
+
 /// Serves standard input to its end.
 fn run<R: Runtime + AllocGlobal + Threads + Wait + Sync>(rt: &R) -> Result<(), Error> {
     let alloc = rt.alloc();
     let words: Vec<String> = std::env::args(rt)?.collect(alloc)?;
-    let [_, cluster, counter, clients @ ..] = words.as_slice() else {
+    let Some(files) = files_in(&words) else {
         return Err(Error::msg(USAGE));
     };
-    if clients.is_empty() {
-        return Err(Error::msg(USAGE));
+    let deployment = deployment_at(rt, files.cluster).context(String::from_str(
+        alloc,
+        files.cluster,
+    )?)?;
+    let keys = all_keys(rt, &deployment, files.clients)?;
+    match files.signing {
+        Some(signing) => sign_for(rt, &deployment, files.counter, signing, keys),
+        None => speak_for(rt, &deployment, files.counter, keys),
     }
-    let deployment = deployment_at(rt, cluster.as_str()).context(cluster.clone()?)?;
-    let keys = all_keys(rt, &deployment, clients)?;
-    speak_for(rt, &deployment, counter, keys)
+}
+
+fn counter_at<'a, R: Runtime + AllocGlobal>(
+    rt: &'a R,
+    path: &'a str,
+) -> Result<CounterFile<'a, R>, Error> {
+    CounterFile::open(rt, path).context(String::from_str(rt.alloc(), path)?)
 }
 
 /// Speaks for the clients whose keys these are, with the counter's file at that path.
 fn speak_for<R: Runtime + AllocGlobal + Threads + Wait + Sync>(
     rt: &R,
     deployment: &Deployment,
-    counter: &String,
+    counter: &str,
     keys: Vec<Keys>,
 ) -> Result<(), Error> {
-    let store = CounterFile::open(rt, counter.as_str()).context(counter.clone()?)?;
+    if !deployment.signers().is_empty() {
+        return Err(Error::msg("the cluster's clients sign their requests: --key is missing"));
+    }
+    let store = counter_at(rt, counter)?;
     let mut relay = Reserving::of_keys(rt.alloc(), deployment.f(), keys, store)?;
     answer(rt, deployment, &mut relay)
 }
 
-fn answer<R: Runtime + AllocGlobal + Threads + Wait + Sync>(
+/// Speaks and signs for the clients whose keys these are.
+fn sign_for<R: Runtime + AllocGlobal + Threads + Wait + Sync>(
     rt: &R,
     deployment: &Deployment,
-    relay: &mut Reserving<CounterFile<'_, R>>,
+    counter: &str,
+    files: SigningFiles<'_>,
+    keys: Vec<Keys>,
+) -> Result<(), Error> {
+    let alloc = rt.alloc();
+    let signer = signer_at(rt, deployment, &keys, files.key).context(String::from_str(
+        alloc, files.key,
+    )?)?;
+    let indexes = counter_at(rt, files.indexes)?;
+    let store = counter_at(rt, counter)?;
+    let relay = Reserving::of_keys(alloc, deployment.f(), keys, store)?;
+    let mut relay = Signing::new(alloc, relay, signer, indexes);
+    answer(rt, deployment, &mut relay)
+}
+
+fn answer<R: Runtime + AllocGlobal + Threads + Wait + Sync, M: Machine>(
+    rt: &R,
+    deployment: &Deployment,
+    relay: &mut M,
 ) -> Result<(), Error> {
     let alloc = rt.alloc();
     let mut reader = BufReader::new(alloc, rt.reader())?;
@@ -74,8 +160,6 @@ fn answer<R: Runtime + AllocGlobal + Threads + Wait + Sync>(
     )?;
     Ok(())
 }
-
-const USAGE: &str = "usage: relay CLUSTER_TOML COUNTER_FILE CLIENT_TOML..";
 
 fn deployment_at<R: Runtime + AllocGlobal>(rt: &R, path: &str) -> Result<Deployment, Error> {
     let document = fs::read(rt, path)?;

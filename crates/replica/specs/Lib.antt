@@ -1,2 +1,3 @@
--- What a replica's folder was given to keep (Folders).
+-- What a replica's folder was given to keep (Folders), and its keys (Keys).
 pub mod Folders
+pub mod Keys

@@ -1,5 +1,5 @@
 // The folder in which a replica outlives its process. `saved-N` is the text of a saved replica, `journal-N` what that did since; those of the highest number count.
-// Who has `lock` has the folder.
+// Who has `lock` has the folder. Of `keys` see same_keys.rt.
 ghost use Rattle.std.specs.Prelude.{⊤, None};
 ghost use Rattle.bfs_journal.specs.Records.{IsBody};
 ghost use Rattle.replica.specs.Folders.{held};
@@ -74,7 +74,7 @@ fn read_files<R: Runtime + AllocGlobal>(rt: &R, folder: &str, number: u64) -> Re
     })
 }
 
-fn read_if_there<R: Runtime + AllocGlobal>(rt: &R, path: &str) -> io::Result<Vec<u8>> {
+pub(crate) fn read_if_there<R: Runtime + AllocGlobal>(rt: &R, path: &str) -> io::Result<Vec<u8>> {
     match fs::read(rt, path) {
         Err(error) if error.kind() == ErrorKind::NotFound => Ok(Vec::new(rt.alloc())),
         other => other,
@@ -160,14 +160,24 @@ fn append_to<D: Disk>(journal: &mut D, alloc: Global, body: &[u8]) -> io::Result
     }
 }
 
-// It is written beside, and takes its name once it is on the disk.
 fn write_saved<R: Runtime + AllocGlobal>(
     rt: &R,
     folder: &str,
     number: u64,
     text: &[u8],
 ) -> io::Result<()> {
-    let path = format!(in rt.alloc(); "{folder}/{SAVED}{number}")?;
+    let name = format!(in rt.alloc(); "{SAVED}{number}")?;
+    write_whole(rt, folder, name.as_str(), text)
+}
+
+/// Writes a file of a folder, which is there with all of the text, or not at all: it is written beside, and takes its name once it is on the disk.
+pub(crate) fn write_whole<R: Runtime + AllocGlobal>(
+    rt: &R,
+    folder: &str,
+    name: &str,
+    text: &[u8],
+) -> io::Result<()> {
+    let path = format!(in rt.alloc(); "{folder}/{name}")?;
     let beside = format!(in rt.alloc(); "{path}.new")?;
     let mut file = to_write().truncate(true).open(rt, beside.as_str())?;
     file.write_all(text)?;

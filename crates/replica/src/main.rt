@@ -1,28 +1,32 @@
-//! A replica of the file service: `replica CLUSTER_TOML REPLICA_TOML FOLDER [--new] [--damaged]`. Turns come on standard input, and what it tells of each goes to
-//! standard output. What it does it keeps in the folder, before it tells it; a later process with that folder goes on as the same replica. docs/SERVICE.md says
-//! more.
+//! A replica of the file service: `replica CLUSTER_TOML REPLICA_TOML FOLDER [--key REPLICA_KEY] [--new] [--damaged]`. Turns come on standard input, and what it
+//! tells of each goes to standard output. What it does it keeps in the folder, before it tells it; a later process with that folder goes on as the same replica.
+//! Where the cluster's replicas sign, it signs by its key. docs/SERVICE.md says more.
 #![tactic(auto)]
 
-ghost use Rattle.std.specs.Prelude.{◌≤◌, length, IfOk};
+ghost use Rattle.std.specs.Prelude.{◌≤◌, length};
 ghost use Rattle.bfs_model.specs.Server.Limits.{most_clients};
 ghost use Rattle.bfs_auth.specs.Principals.{number_of};
 ghost use Rattle.bfs_auth.specs.Replicas.{AreOfReplica};
 ghost use Rattle.bfs_log.specs.Certificates.{faults};
 
 mod folder;
+mod keys;
 mod notes;
+mod same_keys;
+mod signer;
 
 use crate::folder::{Held, ReplicaFolder};
+use crate::keys::keys_at;
+use crate::same_keys::{digest_at, keep_keys};
 use anyhow::{Context, Error};
 use bfs_auth::Keys;
 use bfs_deployment::{Deployment, parse_deployment};
 use bfs_filter::serve;
+use bfs_frames::Limits;
 use bfs_journal::{Recovered, Rest, read_journal};
 use bfs_node::{Executor, Node};
 use bfs_recovery::{Keeping, recover};
 use bfs_service::Terms;
-use bfs_settings::parse_keys;
-use bfs_types::MOST_CLIENTS;
 use std::fs::{File, Files};
 use std::io::BufReader;
 use std::process::ExitCode;
@@ -42,32 +46,47 @@ fn main(rt: HostRuntime) -> ExitCode {
     }
 }
 
+/// Where a replica's documents and its folder are.
+#[derive(Clone, Copy)]
+struct Paths<'a> {
+    keys: &'a str,
+    key: Option<&'a str>,
+    folder: &'a str,
+}
+
 /// Serves standard input to its end.
 fn run<R: Runtime + Files<File = File> + AllocGlobal + Threads + Wait + Sync>(
     rt: &R,
 ) -> Result<(), Error> {
     let alloc = rt.alloc();
     let words: Vec<String> = std::env::args(rt)?.collect(alloc)?;
-    let [_, cluster, keys, folder, options @ ..] = words.as_slice() else {
+    let [_, cluster, keys, folder, rest @ ..] = words.as_slice() else {
         return Err(Error::msg(USAGE));
     };
-    let options = options_in(options)?;
+    let (key, rest) = key_in(rest);
+    let options = options_in(rest)?;
     let deployment = deployment_at(rt, cluster.as_str()).context(cluster.clone()?)?;
-    live(rt, &deployment, keys, folder, options)
+    let paths = Paths {
+        keys: keys.as_str(),
+        key,
+        folder: folder.as_str(),
+    };
+    live(rt, &deployment, paths, options)
 }
 
-/// Lives as the replica with the keys in that document, which the folder holds.
+/// Lives as the replica with these keys, which the folder holds.
 fn live<R: Runtime + Files<File = File> + AllocGlobal + Threads + Wait + Sync>(
     rt: &R,
     deployment: &Deployment,
-    keys: &String,
-    folder: &String,
+    paths: Paths<'_>,
     options: Options,
 ) -> Result<(), Error> {
-    let keys = keys_at(rt, deployment, keys.as_str()).context(keys.clone()?)?;
-    let mut keeping = begin(rt, deployment, keys, folder.as_str(), options).context(
-        folder.clone()?,
-    )?;
+    let terms = terms_of(deployment)?;
+    let keys = keys_at(rt, deployment, paths.keys, paths.key)?;
+    let mut keeping = begin(rt, deployment, terms, keys, paths, options).context(String::from_str(
+        rt.alloc(),
+        paths.folder,
+    )?)?;
     answer(rt, deployment, &mut keeping)
 }
 
@@ -75,7 +94,8 @@ const NEW: &str = "--new";
 
 const DAMAGED: &str = "--damaged";
 
-const USAGE: &str = "usage: replica CLUSTER_TOML REPLICA_TOML FOLDER [--new] [--damaged]";
+const USAGE: &str =
+    "usage: replica CLUSTER_TOML REPLICA_TOML FOLDER [--key REPLICA_KEY] [--new] [--damaged]";
 
 /// What an operator answers for.
 #[derive(Clone, Copy)]
@@ -84,6 +104,14 @@ struct Options {
     is_new: bool,
     /// A replica whose journal is damaged may go on with what stands before the damage.
     is_damaged: bool,
+}
+
+// the path of the replica's key, and the words behind it
+fn key_in(words: &[String]) -> (Option<&str>, &[String]) {
+    match words {
+        [option, key, rest @ ..] if option.as_str() == "--key" => (Some(key.as_str()), rest),
+        _ => (None, words),
+    }
 }
 
 fn options_in(words: &[String]) -> Result<Options, Error> {
@@ -104,13 +132,15 @@ fn has(words: &[String], word: &str) -> bool {
 fn begin<'a, R: Runtime + Files<File = File> + AllocGlobal + Threads + Wait + Sync>(
     rt: &'a R,
     deployment: &Deployment,
+    terms: Terms,
     keys: Keys,
-    folder: &'a str,
+    paths: Paths<'a>,
     options: Options,
 ) -> Result<Keeping<ReplicaFolder<'a, R>>, Error>
     requires replica { AreOfReplica (faults keys) (number_of keys.me) keys }
     requires clients { length keys.clients ≤ most_clients }
 {
+    let folder = paths.folder;
     if options.is_new {
         folder::make(rt, folder)?;
     }
@@ -121,8 +151,12 @@ fn begin<'a, R: Runtime + Files<File = File> + AllocGlobal + Threads + Wait + Sy
         None => 0,
     };
     let node = node_of(rt, keys, held, options)?;
+    let (digest, replicas_sign) = (
+        digest_at(rt, deployment, paths.keys)?,
+        !deployment.replica_signers().is_empty(),
+    );
+    keep_keys(rt, folder, &digest, options.is_new, replicas_sign)?;
     let folder = ReplicaFolder::new(rt, folder, lock, next);
-    let terms = terms_of(deployment);
     Ok(Keeping::begin(rt.alloc(), node, Executor::serial(), terms, folder)?)
 }
 
@@ -208,29 +242,16 @@ fn deployment_at<R: Runtime + AllocGlobal>(rt: &R, path: &str) -> Result<Deploym
     Ok(parse_deployment(rt.alloc(), document.as_slice())?)
 }
 
-fn terms_of(deployment: &Deployment) -> Terms {
-    Terms::of(deployment.f(), deployment.patience(), &deployment.limits())
-}
-
-/// The keys of a replica of that cluster.
-fn keys_at<R: Runtime + AllocGlobal>(
-    rt: &R,
-    deployment: &Deployment,
-    path: &str,
-) -> Result<Keys, Error>
-    ensures replica { IfOk result (λ keys. AreOfReplica (faults keys) (number_of keys.me) keys) }
-    ensures clients { IfOk result (λ keys. length keys.clients ≤ most_clients) }
-{
-    let document = fs::read(rt, path)?;
-    let keys = parse_keys(rt.alloc(), document.as_slice())?;
-    let Some((f, _)) = keys.replica_of() else {
-        return Err(Error::msg("these are not the keys of a replica"));
-    };
-    if f != deployment.f() {
-        return Err(Error::msg("there are other replicas in the cluster"));
+/// How a replica of that cluster serves. It is refused where each NEW-VIEW may have so many signatures that batches have no room for a request.
+fn terms_of(deployment: &Deployment) -> Result<Terms, Error> {
+    let terms = Terms::of(
+        deployment.f(),
+        deployment.patience(),
+        &deployment.limits(),
+        !deployment.replica_signers().is_empty(),
+    );
+    if terms.most_batch_bytes < Limits::new().request as usize {
+        return Err(Error::msg("so many replicas that sign leave NEW-VIEWs no room for requests"));
     }
-    if keys.clients() != deployment.clients() as usize || keys.clients() > MOST_CLIENTS as usize {
-        return Err(Error::msg("there are other clients in the cluster"));
-    }
-    Ok(keys)
+    Ok(terms)
 }

@@ -3,6 +3,7 @@ ghost use Rattle.std.specs.Prelude.{◌<◌};
 
 use crate::spelled::{
     CHECKPOINT, COMMIT, EACH, NULL_PRE_PREPARE, PRE_PREPARE, PREPARE, REPLY, REQUEST,
+    SIGNED_REQUEST,
 };
 use bfs_auth::{Authenticator, Keys, Principal};
 use bfs_codec::{decode, encode};
@@ -66,6 +67,19 @@ fn a_request_is_its_clients(rt: HostRuntime) -> Result<(), Fail> {
     holds!(rt; request.call() == b"a call".as_slice());
     let bytes = spelled(alloc, &client(alloc, 3)?, Message::Request(request))?;
     spells(alloc, bytes.as_slice(), REQUEST)
+}
+
+#[test]
+fn a_request_may_have_a_signature(rt: HostRuntime) -> Result<(), Fail> {
+    let alloc = rt.alloc();
+    let signed = Signed {
+        message: Message::Request(Request::new(alloc, 3, 5, b"a call")?),
+        auth: Authenticator::of_signature(alloc, b"signed")?,
+    };
+    spells(alloc, encode(alloc, &signed)?.as_slice(), SIGNED_REQUEST)?;
+    let read = decode(alloc, hex::decode(alloc, SIGNED_REQUEST)?.as_slice())?;
+    holds!(rt; read.auth.signature() == Some(b"signed".as_slice()));
+    Ok(())
 }
 
 #[test]

@@ -2,7 +2,7 @@
 use crate::accepted::{add, has};
 use crate::run::clients;
 use crate::signed::{hashed_by, reply, signed_by};
-use bfs_auth::Authenticator;
+use bfs_auth::{Authenticator, KeyedHashes};
 use bfs_clients::Tally;
 use bfs_messages::{Message, Request, Signed};
 use bfs_testing::holds;
@@ -63,9 +63,9 @@ fn hashed(alloc: Global, bytes: &[u8]) -> Result<Authenticator, Fail> {
 fn turned(alloc: Global, auth: &Authenticator) -> Result<Authenticator, Fail> {
     let mut entry = *auth.entries().first().ok_or("an entry")?;
     entry[31] ^= 1;
-    let mut turned = Authenticator::new(alloc);
+    let mut turned = KeyedHashes::new(alloc);
     turned.push(entry)?;
-    Ok(turned)
+    Ok(Authenticator::Hashes(turned))
 }
 
 #[test]

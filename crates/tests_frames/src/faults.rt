@@ -68,6 +68,22 @@ static MORE: &[(&str, &str)] = &[
         "patience = 60001",
         "patience: it is no number from 1 to 60000",
     ),
+    ("signers = ''", "signers: it is no array of texts"),
+    ("signers = [0]", "signers: it is no array of texts"),
+    ("signers = []", "signers: there are to be 1 of them"),
+    ("signers = ['']", "signers: one of them is no public key"),
+    (
+        "replica_signers = ''",
+        "replica_signers: it is no array of texts",
+    ),
+    (
+        "replica_signers = []",
+        "replica_signers: there are to be 1 of them",
+    ),
+    (
+        "replica_signers = ['']",
+        "replica_signers: one of them is no public key",
+    ),
     ("limits = 1", "limits: it is no table"),
     (
         "[limits]\norder = 4194304\norders = 1",
@@ -78,14 +94,80 @@ static MORE: &[(&str, &str)] = &[
         "limits.view_change: it is no whole number",
     ),
     (
-        "[limits]\nrequest = 17399",
-        "limits.request: it is no number from 17400 to 4294967295",
+        "[limits]\nrequest = 28699",
+        "limits.request: it is no number from 28700 to 4294967295",
     ),
     (
         "[limits]\nlog = 4294967296",
         "limits.log: it is no number from 4096 to 4294967295",
     ),
 ];
+
+// a good key, in pieces: its levels, its types, and its other bytes
+const LEVELS: &str = "00000002";
+
+const TYPES: &str = "0000000500000003";
+
+const OTHERS: &str =
+    "000102030405060708090a0b0c0d0e0fa0e11306c37bc1bbcccb535e4af6b0cd6211b96525158bddc4b2e6dc71ece9f8";
+
+// pieces between them, and behind a good document
+static SIGNERS: &[(&[&str], &str)] = &[
+    (&["['", LEVELS, TYPES, OTHERS, "']"], ""),
+    (
+        &[
+            "['", LEVELS, TYPES, OTHERS, "', '", LEVELS, TYPES, OTHERS, "']",
+        ],
+        "signers: there are to be 1 of them",
+    ),
+    (
+        &["['00000000", TYPES, OTHERS, "']"],
+        "signers: one of them is no public key",
+    ),
+    (
+        &["['00000009", TYPES, OTHERS, "']"],
+        "signers: one of them is no public key",
+    ),
+    (
+        &["['", LEVELS, "0000000400000003", OTHERS, "']"],
+        "signers: one of them is no public key",
+    ),
+    (
+        &["['", LEVELS, "0000000500000005", OTHERS, "']"],
+        "signers: one of them is no public key",
+    ),
+    (
+        &["['", LEVELS, TYPES, OTHERS, "0']"],
+        "signers: one of them is no public key",
+    ),
+    (
+        &["['", LEVELS, TYPES, OTHERS, "00']"],
+        "signers: one of them is no public key",
+    ),
+    (
+        &["['", LEVELS, TYPES, OTHERS, "', 0]"],
+        "signers: it is no array of texts",
+    ),
+];
+
+fn signers_of(alloc: Global, pieces: &[&str]) -> Result<String, AllocError> {
+    let mut lines = String::from_str(alloc, "signers = ")?;
+    for piece in pieces {
+        lines.push_str(piece)?;
+    }
+    Ok(lines)
+}
+
+#[test]
+fn a_signer_for_each_client_has_a_key(rt: HostRuntime) -> Result<(), Fail> {
+    let alloc = rt.alloc();
+    for (pieces, wanted) in SIGNERS.iter() {
+        let lines = signers_of(alloc, pieces)?;
+        let said = told(alloc, GOOD, lines.as_str())?;
+        holds!(rt; said.as_str() == *wanted || wanted.is_empty() && said.as_str().starts_with("Deployment"));
+    }
+    Ok(())
+}
 
 #[test]
 fn each_fault_is_told_with_its_key(rt: HostRuntime) -> Result<(), Fail> {

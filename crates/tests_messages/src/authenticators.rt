@@ -2,7 +2,8 @@
 ghost use Rattle.std.specs.Prelude.{◌<◌};
 
 use bfs_auth::{
-    Authenticator, Claimed, Keys, MOST_REPLICAS, Principal, check, check_all, sign, sign_for_client,
+    Authenticator, Claimed, KeyedHashes, Keys, MOST_REPLICAS, Principal, check, check_all, sign,
+    sign_for_client,
 };
 use bfs_testing::words::spells;
 use bfs_testing::{holds, same};
@@ -34,15 +35,15 @@ fn claim(alloc: Global, auth: Authenticator) -> Result<Claimed, Memory> {
 
 // with the first byte of each entry changed by a byte
 fn changed(alloc: Global, auth: &Authenticator, by: &[u8]) -> Result<Authenticator, Memory> {
-    let mut changed = Authenticator::new(alloc);
+    let mut changed = KeyedHashes::new(alloc);
     for (entry, change) in auth.entries().iter().zip(by) {
         let mut entry = *entry;
         entry[0] ^= *change;
-        if changed.entries().len() < MOST_REPLICAS {
+        if changed.as_slice().len() < MOST_REPLICAS {
             changed.push(entry)?;
         }
     }
-    Ok(changed)
+    Ok(Authenticator::Hashes(changed))
 }
 
 // the text of replica 0, three times, the second time with its entries changed by these bytes
@@ -167,13 +168,13 @@ static WITHOUT_KEYS: [Case; 3] = [
 
 // with so many of its entries
 fn cut(alloc: Global, auth: &Authenticator, count: usize) -> Result<Authenticator, Memory> {
-    let mut short = Authenticator::new(alloc);
+    let mut short = KeyedHashes::new(alloc);
     for (place, entry) in auth.entries().iter().enumerate() {
-        if place < count && short.entries().len() < MOST_REPLICAS {
+        if place < count && short.as_slice().len() < MOST_REPLICAS {
             short.push(*entry)?;
         }
     }
-    Ok(short)
+    Ok(Authenticator::Hashes(short))
 }
 
 // whether replica 2 takes the text for that of replica 0, which has so many entries

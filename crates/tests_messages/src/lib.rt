@@ -1,5 +1,5 @@
-//! Settings, keys, keyed hashes, authenticators and the last replies, as tests whose expected values come from outside: the standards' own
-//! vectors, and hashes that Python's hmac made.
+//! Settings, keys, signing keys, keyed hashes, signatures, authenticators and the last replies, as tests whose expected values come from outside: the
+//! standards' own vectors, and hashes that Python's hmac made.
 #![tactic(auto)]
 
 #[cfg(test)]
@@ -9,6 +9,12 @@ mod hashes;
 #[cfg(test)]
 mod keys;
 #[cfg(test)]
+mod replica_signatures;
+#[cfg(test)]
 mod replies;
 #[cfg(test)]
 mod settings;
+#[cfg(test)]
+mod signatures;
+#[cfg(test)]
+mod signing_keys;

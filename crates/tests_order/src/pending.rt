@@ -1,5 +1,5 @@
 //! Requests wait until a batch in which they stand is executed.
-use bfs_auth::{Authenticator, MOST_REPLICAS, Principal};
+use bfs_auth::{Authenticator, KeyedHashes, Principal};
 use bfs_messages::{OrderedBatch, Request, Signed};
 use bfs_pending::PendingRequests;
 use bfs_testing::{holds, same};
@@ -20,10 +20,10 @@ fn request(alloc: Global, client: u32, timestamp: u64) -> Result<Signed<Request>
 
 // of client 3, with one entry, of that byte
 fn signed(alloc: Global, timestamp: u64, byte: u8) -> Result<Signed<Request>, Memory> {
+    let mut hashes = KeyedHashes::new(alloc);
+    hashes.push([byte; 32])?;
     let mut signed = request(alloc, 3, timestamp)?;
-    if signed.auth.entries().len() < MOST_REPLICAS {
-        signed.auth.push([byte; 32])?;
-    }
+    signed.auth = Authenticator::Hashes(hashes);
     Ok(signed)
 }
 

@@ -1,45 +1,21 @@
 //! A relay as a filter's machine: what it answers by itself, and what it reserves before it tells a request.
+use crate::stores::Store;
 use bfs_auth::{Keys, Principal};
 use bfs_codec::decode;
 use bfs_filter::{ServeError, serve};
 use bfs_frames::Limits;
 use bfs_messages::Message;
-use bfs_relaying::{AHEAD, Reserve, Reserving};
+use bfs_relaying::{AHEAD, Reserving};
 use bfs_testing::asserts::compared;
 use bfs_testing::same;
 use bfs_testing::words::ROOT_REQUEST;
 use std::alloc::{AllocError, Global};
-use std::io;
-use std::io::{Error, ErrorKind};
 use std::sync::Wait;
 use std::test::Fail;
 use std::thread::Threads;
 
 // what is reserved where a life begins
 const FIRST: u64 = 1_000;
-
-// a number in memory, which may not be raised where it is full
-#[derive(Drop)]
-struct Store {
-    number: u64,
-    full: bool,
-}
-
-impl Reserve for Store {
-    ghost kept = { λ store. store.number };
-
-    fn reserved(&self) -> u64 {
-        self.number
-    }
-
-    fn reserve(&mut self, next: u64) -> io::Result<()> {
-        if self.full {
-            return Err(Error::from(ErrorKind::StorageFull));
-        }
-        self.number = self.number.max(next);
-        Ok(())
-    }
-}
 
 // a turn of NULL under the ticket 5, and of MNT of `/` under the ticket 6; and the answers (RFC 1094 2.2.1 and appendix A; RFC 5531 section 9)
 const OWN: &str = "000000010000000000000002\

@@ -14,4 +14,6 @@ mod script;
 #[cfg(test)]
 mod serving;
 #[cfg(test)]
+mod terms;
+#[cfg(test)]
 mod world;

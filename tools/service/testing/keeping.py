@@ -1,6 +1,7 @@
 """Checks of the folder in which a replica outlives its process: of one replica, without a transport."""
 import os
 import random
+import re
 import resource
 import shutil
 import signal
@@ -8,11 +9,13 @@ import struct
 import subprocess
 from pathlib import Path
 
-from service.testing.running import HERE, check
+from service.cluster import Address, read_cluster, text_of
+from service.testing.running import HERE, QUICK, check
 from service.testing.single import Asking, Ended, Single, copied, only, records
 
 CUTS, CHANGES = 60, 20  # journals that are cut, and changed
 REQUESTS = 8
+OTHER_KEYS = "it began with other keys"  # behind a line that tells how far the replica came
 VERSION = slice(4, 8)  # of the bytes of a saved replica
 
 
@@ -27,11 +30,11 @@ def worked(service, name, requests=REQUESTS):
     return folder
 
 
-def refused(service, folder, text, *options, number=0):
-    """It is refused with that text, and the files stay as they are."""
+def refused(service, folder, text, *options, number=0, lines=1):
+    """It is refused with that text in the last of so many lines, and the files stay as they are."""
     before = {path.name: path.read_bytes() for path in Path(folder).glob("*-*")}
     status, said = Single(service, folder, *options, number=number).ends()
-    check(status == 2 and text in said and said.count("\n") == 1, f"{text!r}: status {status}, {said}")
+    check(status == 2 and said.count("\n") == lines and text in said.splitlines()[-1], f"{text!r}: status {status}, {said}")
     check(before == {path.name: path.read_bytes() for path in Path(folder).glob("*-*")}, f"{text!r}: files were changed")
 
 
@@ -54,7 +57,7 @@ def restarts(service):
         single.kill()
         goes_on(service, folder, executed + 1)
     names = sorted(path.name for path in Path(folder).iterdir())
-    check(names == ["journal-7", "lock", "saved-7"], names)
+    check(names == ["journal-7", "keys", "lock", "saved-7"], names)
     modes = {path.stat().st_mode & 0o777 for path in (*Path(folder).iterdir(), Path(folder))}
     check(modes == {0o600, 0o700}, f"modes {modes}")
 
@@ -99,7 +102,7 @@ def others(service):
     single.ends()
     refused(service, folder, "it holds a replica", "--new")
     other = f"{service.folder}/other"
-    service.bfs("keys", other, "--f", "0", "--clients", "9")
+    service.bfs("keys", other, "--f", "0", "--clients", "9", *QUICK)
     of_another = type("Other", (), {"folder": other, "programs": service.programs})
     refused(of_another, folder, "the text is of a replica with other settings")
     saved = only(folder, "saved")
@@ -120,6 +123,41 @@ def others(service):
     refused(service, folder, "No such file")
 
 
+def other_keys(service):
+    """A folder whose replica began with other keys is refused: with another document, or without public keys of clients or of replicas, or the other way round."""
+    folder, other = worked(service, "other_keys"), f"{service.folder}/changed"
+    without = lambda key: lambda text: re.sub(rf"^{key} = \[.*?\]\n", "", text, flags=re.DOTALL | re.MULTILINE)
+    for name, change in (("replica-0.toml", lambda text: text + "#"), ("cluster.toml", without("signers")), ("cluster.toml", without("replica_signers"))):
+        shutil.rmtree(other, ignore_errors=True)
+        os.mkdir(other, 0o700)
+        for path in Path(service.folder).glob("*.*"):
+            shutil.copy(path, other)
+        changed = Path(other, name)
+        before = changed.read_text()
+        changed.write_text(change(before))
+        check(changed.read_text() != before, f"{name} has not changed")
+        of_another = type("Other", (), {"folder": other, "programs": service.programs})
+        refused(of_another, folder, OTHER_KEYS, lines=2)
+    noted = Path(folder, "keys")
+    keys = noted.read_bytes()
+    noted.unlink()
+    refused(service, folder, OTHER_KEYS, lines=2)
+    noted.write_bytes(keys)
+    goes_on(service, folder, REQUESTS)
+
+
+def crowded(service):
+    """A cluster of so many replicas that sign that their NEW-VIEWs have no room for requests is refused."""
+    other, cluster, count = f"{service.folder}/crowded", read_cluster(service.folder), 19
+    os.mkdir(other, 0o700)
+    for path in Path(service.folder).glob("*.*"):
+        shutil.copy(path, other)
+    of_many = cluster._replace(faults=6, replicas=tuple(Address("crowd", 7_000 + number) for number in range(count)), replica_signers=cluster.replica_signers * count)
+    Path(other, "cluster.toml").write_text(text_of(of_many))
+    of_another = type("Other", (), {"folder": other, "programs": service.programs})
+    refused(of_another, f"{other}/replica-0", "leave NEW-VIEWs no room for requests", "--new")
+
+
 def anothers(service):
     """Another replica's folder is refused."""
     folder = worked(service, "anothers", 0)
@@ -130,7 +168,7 @@ def full(service):
     """Where a disk is full the process ends, and says it; what it has told before is there when it is started again."""
     folder, client = worked(service, "full"), Asking(service)
     client.timestamp = REQUESTS
-    size = only(folder, "saved").stat().st_size + 4_000
+    size = only(folder, "saved").stat().st_size + 40_000
     limit = lambda: (signal.signal(signal.SIGXFSZ, signal.SIG_IGN), resource.setrlimit(resource.RLIMIT_FSIZE, (size, size)))
     single, last = Single(service, folder, prepare=limit), REQUESTS
     try:
@@ -192,4 +230,4 @@ def one_refused(service, folder, options, before, **environment):
     return fault is not None
 
 
-ALONE = restarts, cuts, damages, others, full, refused_calls
+ALONE = restarts, cuts, damages, others, other_keys, crowded, full, refused_calls

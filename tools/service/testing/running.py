@@ -7,6 +7,8 @@ import sys
 import time
 from pathlib import Path
 
+from service.cluster import read_cluster, text_of_signers
+
 HERE = Path(__file__).resolve().parent
 BFS = HERE.parents[1] / "bfs"
 FAKES = {"replica": f"{HERE}/fake_replica", "relay": f"{HERE}/fake_relay"}
@@ -79,15 +81,25 @@ def peak(process):
     return int(line.split()[1]) * 1024
 
 
+# words of `tools/bfs keys`: keys that are made at once, and sign in 32,768 turns, or in 31 views and 32,766 batches
+QUICK = "--heights", "5,5,5", "--replica-heights", "5,5,5,5"
+# keys that sign in 2^25 turns, or in 1,023 views and 2^20 - 2 batches; their relay and replicas start later
+LASTING = "--heights", "5,10,10", "--replica-heights", "10,10,5,5"
+# the same relay's, and replicas' of 32,766 batches, by which a replica in Python signs in any view at once
+SPREAD = "--heights", "5,10,10", "--replica-heights", "10,5,5,5"
+UNSIGNED = ("--unsigned",)
+
+
 class Service:
     """A deployment of these filters in a folder: what `tools/bfs up` started, and what was started beside it. `more` stands in cluster.toml, too."""
 
-    def __init__(self, folder, faults=1, clients=8, programs=FAKES, more=""):
+    def __init__(self, folder, faults=1, clients=8, programs=FAKES, more="", signing=QUICK):
         self.folder, self.log, self.started, self.programs = folder, Path(f"{folder}.log"), [], programs
         *self.replicas, self.relay, self.portmap = [("127.0.0.1", port) for port in free_ports(3 * faults + 3)]
         text = lambda address: f'"{address[0]}:{address[1]}"'
-        self.bfs("keys", folder, "--f", str(faults), "--clients", str(clients), "--relay", text(self.relay).strip('"'))
+        self.bfs("keys", folder, "--f", str(faults), "--clients", str(clients), "--relay", text(self.relay).strip('"'), *signing)
         listed, addresses = ", ".join(map(text, self.replicas)), f"relay = {text(self.relay)}\nportmap = {text(self.portmap)}\n"
+        more = text_of_signers(read_cluster(folder)) + more
         Path(folder, "cluster.toml").write_text(f"f = {faults}\nclients = {clients}\nreplicas = [{listed}]\n{addresses}{more}")
 
     def bfs(self, *words):

@@ -7,13 +7,13 @@ import threading
 import time
 from pathlib import Path
 
-from service.keys import NEW
+from service.keys import COUNTER, INDEXES, NEW
 from service.testing.calls import Stream
 from service.testing.files import MOUNT, Client, settings, text
 from service.testing.packages import install
 from service.testing.running import HERE, check, children, until, words_of
 
-SLOW = 60  # seconds that something may take while a view changes or a state is fetched
+SLOW = 120  # seconds that something may take while a view changes or a state is fetched
 BLOCK = 8_192
 
 
@@ -278,17 +278,19 @@ def another_hand(service):
 
 
 def relay_again(service):
-    """The relay is killed with -9 twice while calls are made: they go on, and timestamps rise."""
+    """The relay is killed with -9 twice while calls are made: they go on, timestamps and indexes of its key rise, and their files stay private."""
     service.up()
     worker = Worker(service, b"work")
     worker.goes_on()
-    path = Path(service.folder, "relay.counter")
+    paths = [Path(service.folder, name) for name in (COUNTER, INDEXES)]
     for _ in range(2):
-        before = int(path.read_text() or 0)
+        before = [int(path.read_text() or 0) for path in paths]
         kill(service, "relay")
         service.start("relay")
         worker.goes_on()
-        check(int(path.read_text()) > before, f"the counter was {before}, and is {path.read_text()}")
+        after = [int(path.read_text()) for path in paths]
+        check(all(one < other for one, other in zip(before, after)), f"the counters were {before}, and are {after}")
+        check(all(path.stat().st_mode & 0o777 == 0o600 for path in paths), "the counters are not private")
     worker.end()
     Session(service, "behind").end()
     same(service, range(4))

@@ -7,7 +7,9 @@ import time
 from pathlib import Path
 
 from service.testing.frames import ASK_REPORT, REPLY, REPORT, REQUEST, framed
-from service.testing.outsiders import OwnKeys, messages
+from service.cluster import read_cluster
+from service.keys import INDEXES, SIGNING_KEY, replica_signing
+from service.testing.outsiders import OwnKeys, Signing, messages, read
 from service.testing.running import PATIENCE, check
 
 PARCEL = struct.Struct(">BQBI")  # to whom, the number, kind, length
@@ -27,7 +29,8 @@ class Single:
     """Replica `number` of a deployment, with that folder."""
 
     def __init__(self, service, folder, *options, number=0, prepare=None, **environment):
-        words = [service.programs["replica"], f"{service.folder}/cluster.toml", f"{service.folder}/replica-{number}.toml", folder, *options]
+        signs = replica_signing(service.folder, read_cluster(service.folder), number)
+        words = [service.programs["replica"], f"{service.folder}/cluster.toml", f"{service.folder}/replica-{number}.toml", folder, *signs, *options]
         pipes = {name: subprocess.PIPE for name in ("stdin", "stdout", "stderr")}
         self.process = subprocess.Popen(words, env={**os.environ, **environment}, preexec_fn=prepare, restore_signals=prepare is None, **pipes)
 
@@ -64,11 +67,18 @@ class Single:
         return int(dict(word.partition("=")[::2] for word in report.decode().split())["executed"])
 
 
+def client(folder, number):
+    """The keys of a client, with those by which its relay signs."""
+    cluster = read(f"{folder}/cluster.toml")
+    signing = Signing(f"{folder}/{SIGNING_KEY}", f"{folder}/{INDEXES}") if "signers" in cluster else None
+    return OwnKeys(f"{folder}/client-{number}.toml", cluster, signing)
+
+
 class Asking:
     """A client of one replica."""
 
     def __init__(self, service):
-        self.keys, self.timestamp = OwnKeys(f"{service.folder}/client-0.toml", 8), 0
+        self.keys, self.timestamp = client(service.folder, 0), 0
 
     def ask(self, single):
         """Has a request executed, and gives its timestamp."""

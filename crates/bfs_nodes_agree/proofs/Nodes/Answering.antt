@@ -2,6 +2,7 @@
 use Rattle.std.proofs.Common.{◌≡◌, ℕ, suc, Bool, true, false, cond, ◌&&◌, List, [], ◌∷◌, ◌++◌, Option, Some, None, map, bytes_eq, ◌⊎◌, inl, inr, refl, sym, ap, subst, ◌∙◌, arith}
 use Rattle.bfs_model.specs.Server.Tree.{FileSystem}
 use Rattle.bfs_auth.specs.Keys.{Keys}
+use Rattle.bfs_auth.specs.declared.authenticators.Authenticator.{Authenticator}
 use Rattle.bfs_codec.specs.Laws.{MessageWasWritten, OneBatch}
 use Rattle.bfs_log.specs.Batches.{Committed}
 use Rattle.bfs_log.specs.Logs.{batch_in}
@@ -196,7 +197,7 @@ knows_on keys r step known_of kept stands log replies = record {
   ];
 }
 
-carried_in : (keys : Keys) (m : OrderMessage) (next : Committed) (auth : List (List ℕ)) → batch_in m ≡ Some next → IsChecked keys (record { message = m; auth = auth }) → requests_are_signed keys next.batch ≡ true
+carried_in : (keys : Keys) (m : OrderMessage) (next : Committed) (auth : Authenticator) → batch_in m ≡ Some next → IsChecked keys (record { message = m; auth = auth }) → requests_are_signed keys next.batch ≡ true
 carried_in keys (PrePrepare proposal) next auth e checked =
     subst (λ (c : Committed). requests_are_signed keys c.batch ≡ true) (some_is (record { number = proposal.vote.number; batch = proposal.batch }) next e) checked
 carried_in keys other next auth e checked = absurd cc

@@ -3,6 +3,7 @@ use Rattle.std.proofs.Common.{◌≡◌, ℕ, ◌<◌, ◌==◌, Bool, true, fal
 use Rattle.std.proofs.lemmas.Bool.{cond_both, eqb-true}
 use Rattle.bfs_auth.specs.Keys.{Keys}
 use Rattle.bfs_auth.specs.declared.principals.Principal.TheVariants as principal
+use Rattle.bfs_auth.specs.declared.authenticators.Authenticator.{Authenticator}
 use Rattle.bfs_votes.specs.Votes.{Header, Told, prepared}
 use Rattle.bfs_log.specs.Certificates.{as_checkpoints, faults, messages_in}
 use Rattle.bfs_log.specs.Headers.{header, message_header}
@@ -146,7 +147,7 @@ lone_stays keys state v n d m i goes = go (state.f == 0) (prepared state.f state
 pub lone_late : (keys : Keys) (state : State) (v n : ℕ) (d : List ℕ) (m : Signed OrderMessage) → IsIn m (proposing.lone_commits keys state v n d) → (header m).tag < 4 → ⊥
 lone_late keys state v n d m i small = lone_stays keys state v n d m i (λ four. absurd (omega (arith, four, small)))
 
-pub reply_is : (reply : model.Reply) (o : Option (List (List ℕ))) (s : Signed Message) → option_map (signed_reply reply) o ≡ Some s → s.message ≡ Reply reply
+pub reply_is : (reply : model.Reply) (o : Option Authenticator) (s : Signed Message) → option_map (signed_reply reply) o ≡ Some s → s.message ≡ Reply reply
 reply_is reply None s e = absurd cc
 reply_is reply (Some auth) s e = sym (ap (λ (x : Signed Message). x.message) (some_is (signed_reply reply auth) s e))
 

@@ -1,5 +1,6 @@
 -- What a step of a node is to views: it takes a VIEW-CHANGE or a NEW-VIEW, or leaves its view, or all of that rests.
 use Rattle.std.proofs.Common.{◌≡◌, ℕ, List, Option, Some, None, refl, ap, ◌∙◌}
+use Rattle.bfs_auth.specs.declared.authenticators.Authenticator.{Authenticator}
 use Rattle.bfs_codec.specs.Reading.{message_of}
 use Rattle.bfs_messages.specs.Messages as model
 use Rattle.bfs_messages.specs.Signing.{as_message}
@@ -38,7 +39,7 @@ pub data Kind (node : Node) (comes : Signed Message → Type 0) (out : Outcome) 
   TookNewView : TakesNewView node comes out → Kind node comes out
   Left : Leaves node out → Kind node comes out
 
-message_kind : (node : Node) (m : Message) (auth : List (List ℕ))
+message_kind : (node : Node) (m : Message) (auth : Authenticator)
     → Kind node (λ x. record { message = m; auth = auth } ≡ x)
     (unless (message_refusal node (record { message = m; auth = auth }) m) node (message_delivered node (record { message = m; auth = auth }) m))
 message_kind node (Request request) auth =

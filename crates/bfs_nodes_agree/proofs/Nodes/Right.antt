@@ -8,6 +8,7 @@ use Rattle.bfs_model.specs.Server.Stored.{AreBytes}
 use Rattle.bfs_model.specs.Server.Tree.{FileSystem, Time}
 use Rattle.bfs_auth.specs.Keys.{Keys}
 use Rattle.bfs_auth.specs.declared.principals.Principal.TheVariants as principal
+use Rattle.bfs_auth.specs.declared.authenticators.Authenticator.{Authenticator}
 use Rattle.bfs_votes.specs.Votes.{Told}
 use Rattle.bfs_checkpoints.specs.Snapshots.{snapshot_of}
 use Rattle.bfs_checkpoints.specs.Texts.{node_digest}
@@ -308,7 +309,7 @@ module _ (faulty : ℕ → Bool) (after : NodeReplicas) (who : ℕ) where
         go (Some refused) e = deed_done faulty after who v node know (IsStill node node) NoReply (turns.Orders call) (still node) [] e may refl know.kept know.waiting
             (λ s i. absurd i) (λ m i small. absurd i) brings offers (refl, refl, refl)
 
-    message_done : (m : Message) (auth : List (List ℕ)) → IsWholly (IsAuthentic faulty w node.keys) (record { message = m; auth = auth }) → FitsMessage m
+    message_done : (m : Message) (auth : Authenticator) → IsWholly (IsAuthentic faulty w node.keys) (record { message = m; auth = auth }) → FitsMessage m
         → DoneBy (message_deeds node (record { message = m; auth = auth }) m)
         (unless (message_refusal node (record { message = m; auth = auth }) m) node (message_delivered node (record { message = m; auth = auth }) m))
     message_done (Request request) auth authentic fits =

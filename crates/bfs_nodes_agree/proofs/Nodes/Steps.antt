@@ -4,6 +4,7 @@ use Rattle.std.specs.Prelude.{max, nat_lt, nat_le, bytes_eq}
 use Rattle.std.proofs.lemmas.Bool.{and_parts, or_parts, and_from, ltb-false, le-leb}
 use Rattle.bfs_model.specs.Server.Tree.{FileSystem}
 use Rattle.bfs_auth.specs.Keys.{Keys}
+use Rattle.bfs_auth.specs.declared.authenticators.Authenticator.{Authenticator}
 use Rattle.bfs_checkpoints.specs.Snapshots.{snapshot_of}
 use Rattle.bfs_checkpoints.specs.Texts.{node_digest}
 use Rattle.bfs_log.specs.Batches.{Committed}
@@ -162,7 +163,7 @@ pub not_second : (first second : Option NodeError) → first_of first second ≡
 not_second None second e = e
 not_second (Some refused) second e = absurd cc
 
-message_comes : (node : Node) (m : Message) (auth : List (List ℕ)) → IsBounded node.order
+message_comes : (node : Node) (m : Message) (auth : Authenticator) → IsBounded node.order
     → Lead node.order (message_deeds node (record { message = m; auth = auth }) m)
     (unless (message_refusal node (record { message = m; auth = auth }) m) node (message_delivered node (record { message = m; auth = auth }) m)).now.order []
 message_comes node (Request request) auth bounded =

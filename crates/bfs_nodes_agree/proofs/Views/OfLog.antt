@@ -1,6 +1,7 @@
 -- Certificates that are made of a log: its messages, and those of batches are proved.
 use Rattle.std.proofs.Common.{◌≡◌, ℕ, ◌<◌, ◌≤◌, ◌==◌, true, ◌||◌, List, [], Some, sym, ap, subst, ◌∙◌, arith}
 use Rattle.std.proofs.lemmas.Bool.{and_parts, cond_both}
+use Rattle.bfs_auth.specs.declared.authenticators.Authenticator.{Authenticator}
 use Rattle.bfs_votes.specs.Votes.{Header, is_backed, primary, told}
 use Rattle.bfs_log.specs.Certificates.{as_checkpoints, is_proved, messages_in, view_in}
 use Rattle.bfs_log.specs.Headers.{header}
@@ -22,7 +23,7 @@ use Rattle.bfs_nodes_agree.proofs.Views.Lists.{at_in, contains, in_map, is_in, m
 
 -- Of its stable number ------------------------------------------------------------------------------------------------------
 
-checkpoint_is : (m : OrderMessage) (auth : List (List ℕ)) (x : Signed model.Checkpoint) → checkpoint_in m auth ≡ Some x → record { message = m; auth = auth } ≡ as_message Checkpoint x
+checkpoint_is : (m : OrderMessage) (auth : Authenticator) (x : Signed model.Checkpoint) → checkpoint_in m auth ≡ Some x → record { message = m; auth = auth } ≡ as_message Checkpoint x
 checkpoint_is (Checkpoint c) auth x e = ap (as_message Checkpoint) (some_is (record { message = c; auth = auth }) x e)
 checkpoint_is other auth x e = absurd cc
 

@@ -80,7 +80,7 @@ abbrev pub offers_in : Message → Log
 offers_in (NewView new) = as_proposals new.proposals
 offers_in _ = []
 
--- of what a message's keyed hashes are: of a PRE-PREPARE the batch is attached, and they are of its digest
+-- of what a message's authenticator is: of a PRE-PREPARE the batch is attached, and it is of its digest
 abbrev pub order_signed_part : OrderMessage → OrderMessage
 order_signed_part (PrePrepare proposal) = PrePrepare (record proposal { batch = None })
 order_signed_part other = other
@@ -118,7 +118,7 @@ pub record WasGiven (faulty : ℕ → Bool) (w : NodeReplicas) (message : Messag
   pub is : IsOf part sent
   pub same : SaysTheSame part.message message
 
--- the sender is faulty or a client, the keyed hash is wrong for the receiver, or it was given
+-- the sender is faulty or a client, the authenticator is wrong for the receiver, or it was given
 abbrev pub IsFair : (faulty : ℕ → Bool) → NodeReplicas → Keys → Signed Message → Type 0
 IsFair faulty w keys m = (k : ℕ) → sender_of m.message ≡ principal.Replica k → is_signed keys m ≡ true → faulty k ≡ false → WasGiven faulty w m.message
 

@@ -72,7 +72,7 @@ pub fn what_was_sent_is_authentic()
 
 /// Over every list of calls of nodes and deliveries of bytes: each REPLY that a node has sent gives the answer to a request in a batch that it
 /// executed, on a state that it had reached, or once more the last reply to its client that such a state has; and each request in such a batch
-/// has a right keyed hash of the client that it names.
+/// has a right authenticator of the client that it names.
 pub fn nodes_answer()
     ensures { NodesAnswer }
 {
@@ -82,7 +82,7 @@ pub fn nodes_answer()
     batches_with_one_text();
 }
 
-/// What a node gives again it has sent before: a message that says the same, to the letter but for the batch of a PRE-PREPARE and for keyed hashes.
+/// What a node gives again it has sent before: a message that says the same, to the letter but for the batch of a PRE-PREPARE and for authenticators.
 /// Or it is the NEW-VIEW by which it has entered its view, which it has sent or which came to it. It may be given to any node, with all that is
 /// within it. It holds of each correct node, whoever the other one is, where there are others.
 pub fn what_is_resent_was_sent()

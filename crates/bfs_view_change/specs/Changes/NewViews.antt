@@ -38,7 +38,7 @@ choice_refusal keys changes =
     if not (do_agree changes && list_all (valid_view_change keys) changes) then Some BadCertificate else
     (if nat_lt (senders (faults keys) changes) (2 * faults keys + 1) then Some TooFew else None)
 
--- a PRE-PREPARE of that sender and view for what was chosen, with its own keyed hash right
+-- a PRE-PREPARE of that sender and view for what was chosen, with its own authenticator right
 abbrev pub proposes : Keys → (sender view : ℕ) → Signed model.PrePrepare → Chosen → Bool
 proposes keys sender view s c =
     ((s.message.vote.sender == sender) && ((s.message.vote.view == view) && (s.message.vote.number == c.number)))

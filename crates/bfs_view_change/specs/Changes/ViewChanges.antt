@@ -10,7 +10,7 @@ use Rattle.bfs_messages.specs.declared.signed.Signed.{Signed}
 use Rattle.bfs_messages.specs.declared.message.Message.TheVariants.{ViewChange}
 use Rattle.bfs_model.specs.Server.Limits.{log_size}
 
--- what they say, without the keyed hashes
+-- what they say, without the authenticators
 abbrev pub messages_of : List (Signed model.ViewChange) → List model.ViewChange
 messages_of changes = map (λ s. s.message) changes
 

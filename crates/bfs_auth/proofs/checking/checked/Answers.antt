@@ -1,12 +1,12 @@
 use Rattle.std.proofs.Common.{ap, ◌∙◌}
 use Rattle.rayon.proofs.ListFacts.{IfOk-then}
-use Rattle.rayon.proofs.ToStd.{slice-map}
 use Rattle.bfs_auth.specs.Authenticators.{passes}
+use Rattle.bfs_auth.proofs.Public.{each_answered}
 use Rattle.bfs_auth.proofs.checking.checked.Goals as goal
 
 pub returns : goal.returns
 returns g c =
-    let slice = ap (λ it. it.base.slice.now) c.map.ensures.base ∙ ap (λ it. it.slice.now) c.with_min_len.ensures.base ∙ c.par_iter.ensures in
+    let slice = ap (λ it. it.base.slice.now) c.map_init.ensures.base ∙ ap (λ it. it.slice.now) c.with_min_len.ensures.base ∙ c.par_iter.ensures in
     IfOk-then c.collect.result _ _ c.collect.ensures (λ v h.
-    let chain = rw (c.map.ensures.f) at h.1 in
-    h.2 ∙ slice-map chain.0 c.args.items.now (chain.1 ∙ slice) (λ item. passes c.args.keys.now item.sender item.text.items item.auth) h.0 chain.2)
+    let chain = rw (c.map_init.ensures.f) at h.1 in
+    h.2 ∙ each_answered _ chain.0 c.args.items.now (chain.1 ∙ slice) (λ item. passes c.args.keys.now item.sender item.text.items item.auth) h.0 chain.2)

@@ -37,3 +37,39 @@ pub returns-in-Err-clause-ill_formed : goal.returns-in-Err-clause-ill_formed
 returns-in-Err-clause-ill_formed c is =
     let same : c.from-in-Err.result ≡ error.NotWellFormed = cc in
     rw c.clients.ensures at (c.in-Err.ensures.ill_formed (ap Err (not_well_formed c.in-Err.error (ap of_adopting (sym c.from.ensures) ∙ sym c.from-in-Err.ensures ∙ same))))
+
+malformed_only : (e : RestoreError) → of_adopting (refusal_of e) ≡ error.MalformedText → e ≡ restoring.Malformed
+malformed_only restoring.Malformed is = refl
+malformed_only restoring.NotWellFormed is = absurd cc
+malformed_only restoring.WrongVersion is = absurd cc
+malformed_only restoring.Memory is = absurd cc
+
+version_only : (e : RestoreError) → of_adopting (refusal_of e) ≡ error.WrongVersion → e ≡ restoring.WrongVersion
+version_only restoring.WrongVersion is = refl
+version_only restoring.Malformed is = absurd cc
+version_only restoring.NotWellFormed is = absurd cc
+version_only restoring.Memory is = absurd cc
+
+pub returns-in-Err-clause-malformed : goal.returns-in-Err-clause-malformed
+returns-in-Err-clause-malformed c =
+    let of : c.from-in-Err.result ≡ of_adopting (refusal_of c.in-Err.error) = c.from-in-Err.ensures ∙ ap of_adopting c.from.ensures in (
+      (λ is.
+          let same : c.from-in-Err.result ≡ error.MalformedText = cc in
+          rw c.clients.ensures at (c.in-Err.ensures.malformed.0 (ap Err (malformed_only c.in-Err.error (sym of ∙ same))))),
+      (λ none.
+          let told = c.in-Err.ensures.malformed.1 (rw (sym c.clients.ensures) at none) in
+          let same : c.in-Err.error ≡ restoring.Malformed = cc in
+          ap Err (of ∙ ap (λ (e : RestoreError). of_adopting (refusal_of e)) same)),
+    )
+
+pub returns-in-Err-clause-wrong_version : goal.returns-in-Err-clause-wrong_version
+returns-in-Err-clause-wrong_version c =
+    let of : c.from-in-Err.result ≡ of_adopting (refusal_of c.in-Err.error) = c.from-in-Err.ensures ∙ ap of_adopting c.from.ensures in (
+      (λ is.
+          let same : c.from-in-Err.result ≡ error.WrongVersion = cc in
+          rw c.clients.ensures at (c.in-Err.ensures.wrong_version.0 (ap Err (version_only c.in-Err.error (sym of ∙ same))))),
+      (λ other.
+          let told = c.in-Err.ensures.wrong_version.1 (rw (sym c.clients.ensures) at other) in
+          let same : c.in-Err.error ≡ restoring.WrongVersion = cc in
+          ap Err (of ∙ ap (λ (e : RestoreError). of_adopting (refusal_of e)) same)),
+    )

@@ -1,0 +1,13 @@
+pub mod Places
+pub mod Alike
+pub mod Said
+pub mod Held
+pub mod ComingBack
+pub mod Valid
+pub mod Views
+pub mod Standing
+pub mod Own
+pub mod Hashes
+pub mod Heard
+pub mod InTime
+pub mod OwnSigns

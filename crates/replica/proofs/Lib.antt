@@ -1,0 +1,2 @@
+-- Lemmas of replica.
+pub mod Documents
