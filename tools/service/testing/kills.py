@@ -9,7 +9,9 @@ from service.testing.sessions import Session, Worker, end, kill_all, reports, sa
 WORKERS, REPLICAS = 3, 4
 MOST_WAIT = 0.3  # seconds
 MOST_VIEWS = 5
-MOST_BODY, DIGEST = 5_000, 32  # bytes
+MOST_BODY = 5_000  # bytes
+RECORD = struct.Struct(">II")  # the length of a body, twice; then come its digest and the body
+DIGEST = 32  # bytes
 
 
 def join(service, workers):
@@ -27,14 +29,23 @@ def join(service, workers):
             worker.goes_on()
 
 
+def ends_whole(journal):
+    """Whether a whole record stands at the end, or nothing."""
+    place = 0
+    while place + RECORD.size <= len(journal):
+        place += RECORD.size + DIGEST + RECORD.unpack_from(journal, place)[0]
+    return place == len(journal)
+
+
 def tear(folder, words):
-    """A write of a record that was cut stands behind what a replica has synced."""
+    """A write of a record that was cut stands behind what a replica has synced, unless the kill itself has cut one."""
     journals = sorted(Path(folder).glob("journal-*"), key=lambda path: int(path.name.partition("-")[2]))
     length = words.randrange(1, MOST_BODY)
-    record = struct.pack(">II", length, length) + words.randbytes(DIGEST + length)
+    record = RECORD.pack(length, length) + words.randbytes(DIGEST + length)
     for path in journals[-1:]:
-        with open(path, "ab") as file:
-            file.write(record[: words.randrange(len(record))])
+        if ends_whole(path.read_bytes()):
+            with open(path, "ab") as file:
+                file.write(record[: words.randrange(len(record))])
 
 
 def kills(service):

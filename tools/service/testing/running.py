@@ -1,5 +1,6 @@
 """Starts fake deployments on loopback, and ends what it started by its ids."""
 import os
+import random
 import signal
 import socket
 import subprocess
@@ -35,18 +36,24 @@ def until(condition, text, seconds=PATIENCE):
 
 
 def free_ports(count):
-    """Ports that were free a moment ago, for TCP and for UDP."""
-    sockets = []
-    for _ in range(count):
-        stream = socket.socket()
-        stream.bind(("127.0.0.1", 0))
-        datagrams = socket.socket(socket.AF_INET, socket.SOCK_DGRAM)
-        datagrams.bind(stream.getsockname())
-        sockets += stream, datagrams
-    ports = [each.getsockname()[1] for each in sockets[::2]]
-    for each in sockets:
-        each.close()
+    """Ports that were free a moment ago, for TCP and for UDP, of those from which no connection begins: such a one would take that of a replica that is gone."""
+    least = int(Path("/proc/sys/net/ipv4/ip_local_port_range").read_text().split()[0])
+    ports = []
+    while len(ports) < count:
+        port = random.randrange(least // 2, least)
+        if port not in ports and is_free(port):
+            ports.append(port)
     return ports
+
+
+def is_free(port):
+    try:
+        for kind in (socket.SOCK_STREAM, socket.SOCK_DGRAM):
+            with socket.socket(socket.AF_INET, kind) as one:
+                one.bind(("127.0.0.1", port))
+        return True
+    except OSError:
+        return False
 
 
 def children(process):
@@ -67,6 +74,15 @@ def words_of(process):
         return Path(f"/proc/{process}/cmdline").read_bytes().split(b"\0")[:-1]
     except OSError:
         return []
+
+
+def is_gone(process):
+    """Whether it has ended with all its threads, so that all that it had open is closed."""
+    try:
+        state = Path(f"/proc/{process}/stat").read_text().rpartition(")")[2].split()[0]
+        return state in "XZ" and len(list(Path(f"/proc/{process}/task").iterdir())) == 1
+    except OSError:
+        return True
 
 
 def used(process):

@@ -11,7 +11,7 @@ from service.keys import COUNTER, INDEXES, NEW
 from service.testing.calls import Stream
 from service.testing.files import MOUNT, Client, settings, text
 from service.testing.packages import install
-from service.testing.running import HERE, check, children, until, words_of
+from service.testing.running import HERE, check, children, is_gone, until
 
 SLOW = 120  # seconds that something may take while a view changes or a state is fetched
 BLOCK = 8_192
@@ -153,7 +153,7 @@ def kill_all(service, *all_words):
             os.kill(process, signal.SIGKILL)
         except ProcessLookupError:
             pass  # it has followed the other one
-    until(lambda: not any(map(words_of, processes)), "they are gone")
+    until(lambda: all(map(is_gone, processes)), "they are gone")
 
 
 def end(service):
