@@ -1,0 +1,102 @@
+//! Trees that have grown before they sign.
+use crate::vectors::{BELOW, signer};
+use lms::{LmsType, OtsType, PrivateKey, Signer};
+use std::alloc::Global;
+use std::test::Fail;
+
+const KEY: PrivateKey = PrivateKey {
+    lms: LmsType::H5,
+    ots: OtsType::W2,
+    id: [3; 16],
+    seed: [4; 32],
+};
+
+// of three levels with 32 leaves each: forth, far ahead and back
+static INDEXES: [u64; 6] = [0, 31, 32, 32_767, 1_024, 40];
+
+// a tree of 32 leaves grows by a leaf at a time, and then by all nodes over them
+const STEPS: u32 = 33;
+
+// how often a tree grows that signs by the index
+fn grow(alloc: Global, signer: &Signer, index: u64) -> u32 {
+    for count in 0u32..1_000 {
+        if !signer.grow(alloc, index) {
+            return count;
+        }
+    }
+    1_000
+}
+
+// and behind it
+fn grow_next(alloc: Global, signer: &Signer, index: u64) -> u32 {
+    for count in 0u32..1_000 {
+        if !signer.grow_next(alloc, index) {
+            return count;
+        }
+    }
+    1_000
+}
+
+fn new_signer(alloc: Global) -> Result<Signer, Fail> {
+    Ok(signer(alloc, KEY, &BELOW).ok().ok_or("no signer")?)
+}
+
+fn sign(alloc: Global, signer: &mut Signer, index: u64) -> Result<Vec<u8>, Fail> {
+    let signed = signer.sign(alloc, index, b"a text");
+    Ok(signed.ok().ok_or("no signature")?)
+}
+
+fn signed_anew(alloc: Global, index: u64) -> Result<Vec<u8>, Fail> {
+    let mut signer = new_signer(alloc)?;
+    sign(alloc, &mut signer, index)
+}
+
+#[test]
+fn trees_that_have_grown_sign_alike(rt: HostRuntime) -> Result<(), Fail> {
+    let alloc = rt.alloc();
+    let mut signer = new_signer(alloc)?;
+    for index in INDEXES.iter().copied() {
+        let _ = grow(alloc, &signer, index);
+        let _ = grow_next(alloc, &signer, index);
+        let signed = sign(alloc, &mut signer, index)?;
+        assert!(rt; signed == signed_anew(alloc, index)?);
+    }
+    Ok(())
+}
+
+#[test]
+fn trees_grow_once(rt: HostRuntime) -> Result<(), Fail> {
+    let alloc = rt.alloc();
+    let mut signer = new_signer(alloc)?;
+    assert_eq!(rt; grow(alloc, &signer, 0), 2 * STEPS);
+    // the next tree of the last level
+    assert_eq!(rt; grow_next(alloc, &signer, 0), STEPS);
+    assert_eq!(rt; grow(alloc, &signer, 32), 0);
+    let _ = sign(alloc, &mut signer, 0)?;
+    assert_eq!(rt; grow(alloc, &signer, 31), 0);
+    assert_eq!(rt; grow_next(alloc, &signer, 31), 0);
+    // and of the level above it, once half of a tree is used up
+    assert_eq!(rt; grow(alloc, &signer, 512), STEPS);
+    assert_eq!(rt; grow_next(alloc, &signer, 512), 2 * STEPS);
+    // behind the last index there is none
+    assert_eq!(rt; grow(alloc, &signer, 32_767), 2 * STEPS);
+    assert_eq!(rt; grow_next(alloc, &signer, 32_767), 0);
+    Ok(())
+}
+
+#[test]
+fn trees_are_copied(rt: HostRuntime) -> Result<(), Fail> {
+    let alloc = rt.alloc();
+    let signer = new_signer(alloc)?;
+    let mut copy = signer.try_clone(alloc)?;
+    assert!(rt; copy.is_of(&KEY, &BELOW));
+    assert_eq!(rt; grow(alloc, &signer, 100), 2 * STEPS);
+    copy.copy_trees(alloc, &signer, 100);
+    assert_eq!(rt; grow(alloc, &copy, 100), 0);
+    assert!(rt; sign(alloc, &mut copy, 100)? == signed_anew(alloc, 100)?);
+    // from those that have signed, too
+    let other = signer.try_clone(alloc)?;
+    other.copy_trees(alloc, &copy, 101);
+    assert_eq!(rt; grow(alloc, &other, 101), 0);
+    Ok(())
+}
