@@ -135,7 +135,7 @@ impl Keys {
     }
 
     /// The same keys, with a key by which their owner signs what is of a place: the private key of its first tree, and the types of the trees of the levels below.
-    /// It makes trees for it, which takes long (`lms::Signer::new`). No other process may sign by that key. `Memory` if memory runs out.
+    /// It makes the first tree, which takes long (`lms::Signer::new`); `grow` makes others. No other process may sign by that key. `Memory` if memory runs out.
     pub fn with_signer(
         self,
         alloc: Global,

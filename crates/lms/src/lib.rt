@@ -6,6 +6,8 @@ mod bytes;
 mod chains;
 mod digits;
 mod error;
+mod growing;
+mod growing_trees;
 mod hss;
 mod laws;
 mod levels;

@@ -4,6 +4,8 @@
 
 mod changes;
 #[cfg(test)]
+mod growing;
+#[cfg(test)]
 mod kept;
 #[cfg(test)]
 mod parts;

@@ -101,6 +101,33 @@ fn each_kind_passes_at_all_and_of_nobody_else(rt: HostRuntime) -> Result<(), Fai
     Ok(())
 }
 
+// how often trees grow in a view, behind a number
+fn grow(alloc: Global, keys: &Keys, view: u64, number: u64) -> u32 {
+    for count in 0u32..1_000 {
+        if !keys.grow(alloc, view, number) {
+            return count;
+        }
+    }
+    1_000
+}
+
+#[test]
+fn trees_that_have_grown_sign_alike(rt: HostRuntime) -> Result<(), Fail> {
+    let alloc = rt.alloc();
+    let grown = signing(alloc, &[])?;
+    let anew = signing(alloc, &[])?;
+    holds!(rt; grow(alloc, &grown, 0, 6) > 0);
+    same!(rt; grow(alloc, &grown, 0, 6), 0);
+    for (tag, first, second) in KINDS.iter().copied() {
+        let said = text(tag, first, second);
+        let (one, other) = (sign(alloc, &grown, &said)?, sign(alloc, &anew, &said)?);
+        holds!(rt; one.signature() == other.signature());
+        let _ = grow(alloc, &grown, 1, 7);
+    }
+    same!(rt; grow(alloc, &keys_of(alloc, 1, &[])?, 0, 6), 0);
+    Ok(())
+}
+
 #[test]
 fn a_commit_has_keyed_hashes(rt: HostRuntime) -> Result<(), Fail> {
     let alloc = rt.alloc();
