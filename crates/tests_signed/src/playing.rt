@@ -217,7 +217,7 @@ impl Play {
         if self.correct().has(number) {
             number
         } else {
-            (number + 1) % 4
+            number.wrapping_add(1) % 4
         }
     }
 
