@@ -5,13 +5,13 @@ import time
 from pathlib import Path
 
 from service.testing.sessions import Session, Worker, end, kill_all, reports, same
+from service.testing.single import HEAD
 
 WORKERS, REPLICAS = 3, 4
 MOST_WAIT = 0.3  # seconds
 MOST_VIEWS = 5
 MOST_BODY = 5_000  # bytes
-RECORD = struct.Struct(">II")  # the length of a body, twice; then come its digest and the body
-DIGEST = 32  # bytes
+LENGTHS = struct.Struct(">II")  # that of a body, twice, at the head of its record
 
 
 def join(service, workers):
@@ -32,8 +32,8 @@ def join(service, workers):
 def ends_whole(journal):
     """Whether a whole record stands at the end, or nothing."""
     place = 0
-    while place + RECORD.size <= len(journal):
-        place += RECORD.size + DIGEST + RECORD.unpack_from(journal, place)[0]
+    while place + LENGTHS.size <= len(journal):
+        place += HEAD + LENGTHS.unpack_from(journal, place)[0]
     return place == len(journal)
 
 
@@ -41,7 +41,7 @@ def tear(folder, words):
     """A write of a record that was cut stands behind what a replica has synced, unless the kill itself has cut one."""
     journals = sorted(Path(folder).glob("journal-*"), key=lambda path: int(path.name.partition("-")[2]))
     length = words.randrange(1, MOST_BODY)
-    record = RECORD.pack(length, length) + words.randbytes(DIGEST + length)
+    record = LENGTHS.pack(length, length) + words.randbytes(HEAD - LENGTHS.size + length)
     for path in journals[-1:]:
         if ends_whole(path.read_bytes()):
             with open(path, "ab") as file:
