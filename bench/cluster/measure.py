@@ -5,12 +5,16 @@ one after another; and the memory of each run. A run has 24 batches, of which th
 
 What must be hashed, for n replicas: the client signs a request for each; each checks it when it comes, and not again in the PRE-PREPARE; each hashes
 the batch; each signs its reply, and the client checks each. Counted in blocks of SHA-256, at the speed of the kit's `sha2`.
+
+Then what a batch of 1, 16 and 256 requests takes four replicas by keyed hashes, and by signatures of four levels with requests that a relay signs by three: the
+least mean of 64 batches. A tree of the last level signs 32 of them.
 """
 import time
 
 import lib
 
 SECONDS, BATCHES, REQUESTS = 25, 24, 1_024
+COUNTS, SIGNED_BATCHES, ROUNDS = (1, 16, 256), 64, 3
 CALLS = {"getattr": 72, "write": 8_280}  # bytes of a call
 REPLY = 32 + 96  # bytes of what is signed of a reply, with attributes as its result
 
@@ -58,10 +62,20 @@ def measure(program, workload, faults):
     )
 
 
+def compare(program, workload, count):
+    """By signatures beside keyed hashes."""
+    ways = {way: (program, way, workload, SIGNED_BATCHES, count, ROUNDS) for way in ("hashed", "signed")}
+    for processors, before in (1, lib.ON_ONE), (lib.PROCESSORS, ()):
+        hashed, signed = (lib.run(*before, *command, reads=True).numbers[0] / 1000 for command in ways.values())
+        print(f"{workload}, batches of {count}, {processors} processors: hashed {hashed:.2f} ms, signed {signed:.2f} ms: {signed / hashed:.1f}")
+
+
 def main(room, words):
     lib.chosen(words, ())
-    crates = "bfs_types bfs_settings bfs_messages bfs_serial bfs_clients bfs_cluster sha2"
+    crates = "bfs_types bfs_settings bfs_auth bfs_messages bfs_serial bfs_node bfs_clients bfs_cluster bfs_signatures lms sha2"
     program = lib.program_of("cluster", room, crates, "serial", "getattr", "1")
     for workload in CALLS:
         for faults in (0, 1):
             measure(program, workload, faults)
+        for count in COUNTS:
+            compare(program, workload, count)

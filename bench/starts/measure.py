@@ -79,15 +79,13 @@ def newest(folder, kind):
 
 
 def fill(client, calls, folder, process):
-    """Makes calls until the replica has been saved anew, and then until the journal is nearly as long as it gets. Gives the seconds of a processor that its turns took."""
-    first, before = newest(folder, "saved").name, None
+    """Makes calls until the journal is nearly as long as it gets, and gives the seconds of a processor that its turns took."""
+    name = before = None
     while True:
         make(client, itertools.islice(calls, AT_A_TIME))
         saved, journal = newest(folder, "saved"), newest(folder, "journal")
-        if saved.name == first:
-            continue
-        if before is None:
-            before = used([process])
+        if saved.name != name:
+            name, before = saved.name, used([process])
         elif journal.stat().st_size > FULL * max(saved.stat().st_size, LEAST_JOURNAL):
             return used([process]) - before
 

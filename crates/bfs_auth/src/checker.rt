@@ -7,12 +7,13 @@ ghost use Rattle.bfs_auth.specs.Authenticators.{is_signed_by, passes, signature_
 
 use crate::authenticators::{Authenticator, SignatureBytes};
 use crate::checking::is_hashed;
+use crate::kept_levels::is_root_signed;
 use crate::pairwise::Keys;
 use crate::principals::Principal;
 use crate::signatures::leaf_hash;
 use crate::texts::Text;
 use bfs_signatures::{root_of, root_signature_of};
-use lms::{HssPublicKey, hss_verify};
+use lms::{HssPublicKey, UpperLevels};
 
 /// Checks authenticators one after another. Texts that are signed at once have one root and one signature of it, whose verifying takes nearly all
 /// of the time: of those that come one behind another by one public key it verifies the first alone.
@@ -38,7 +39,7 @@ impl Checker {
         Checker { last: None }
     }
 
-    /// What `check_text` answers. It keeps a share of a signature's bytes until it verifies another one.
+    /// What `check_text` answers. It keeps a share of a signature's bytes until it verifies another one, and the keys keep the upper levels of one that passes.
     #[tactic(auto, unfolding(crate::specs::Authenticators::passes))]
     pub fn check_text<T: Text>(
         &mut self,
@@ -50,13 +51,17 @@ impl Checker {
         ensures { result ≡ passes keys.now sender (T.text text.now) auth.now }
     {
         match keys.public_key_of(sender, text) {
-            Some(public_key) => self.is_signed_by(public_key, text, auth),
+            Some(public_key) => {
+                let levels = keys.upper_levels_of(sender, text);
+                self.is_signed_by(levels, public_key, text, auth)
+            }
             None => is_hashed(keys, sender, text, auth),
         }
     }
 
     fn is_signed_by<T: Text>(
         &mut self,
+        levels: Option<&UpperLevels>,
         public_key: &HssPublicKey,
         text: &T,
         auth: &Authenticator,
@@ -64,25 +69,27 @@ impl Checker {
         ensures { result ≡ is_signed_by (hss_public_key_bytes public_key.now) (T.text text.now) (signature_in auth.now) }
     {
         match auth.signature_bytes() {
-            Some(signature) => self.is_signature(public_key, text, signature),
+            Some(signature) => self.is_signature(levels, public_key, text, signature),
             None => false,
         }
     }
 
     fn is_signature<T: Text>(
         &mut self,
+        levels: Option<&UpperLevels>,
         public_key: &HssPublicKey,
         text: &T,
         signature: &SignatureBytes,
     ) -> bool
         ensures { result ≡ is_signature (hss_public_key_bytes public_key.now) (T.text text.now) signature.now }
     {
-        self.is_signature_of_leaf(&public_key.to_bytes(), &leaf_hash(text), signature)
+        self.is_signature_of_leaf(levels, &public_key.to_bytes(), &leaf_hash(text), signature)
     }
 
     #[tactic(auto, using(crate::proofs::Rooted::by_root, crate::proofs::Rooted::no_root, crate::proofs::Rooted::no_root_signature))]
     fn is_signature_of_leaf(
         &mut self,
+        levels: Option<&UpperLevels>,
         public_key: &[u8; 60],
         leaf: &[u8; 32],
         signature: &SignatureBytes,
@@ -98,7 +105,7 @@ impl Checker {
         if let Some(answer) = self.told(public_key, &root, root_signature) {
             return answer;
         }
-        let answer = hss_verify(public_key, &root, root_signature);
+        let answer = is_root_signed(levels, public_key, &root, root_signature);
         self.last = remembered(public_key, root, signature, answer);
         answer
     }

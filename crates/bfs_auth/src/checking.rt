@@ -24,7 +24,7 @@ pub struct Claimed {
 /// Whether the authenticator is the sender's for the text, as the receiver sees it, whose keys these are. Where it knows a public key of the
 /// sender, and of a replica the text is of a place: whether it is a signature of the text by that. Where it knows none: whether the receiver's own entry is the keyed hash of the
 /// text under the key from the sender to the receiver; `false` where they share no key, and where there is no entry for the receiver.
-/// It takes no memory, and its time depends on the bytes that it compares.
+/// It takes no memory but for what the keys keep, the upper levels of the signatures of each sender that passed last, and its time depends on the bytes that it compares.
 pub fn check(keys: &Keys, sender: Principal, text: &[u8], auth: &Authenticator) -> bool
     ensures { result ≡ passes keys.now sender text.now auth.now }
 {

@@ -8,12 +8,13 @@ ghost use Rattle.bfs_auth.specs.Keys.{clients_known, key_from_to, keys_from, key
 ghost use Rattle.bfs_auth.specs.Replicas.{AreOfReplica};
 ghost use Rattle.lms.specs.Levels.{hss_public_key_bytes, most_levels};
 
+use crate::kept_levels::KeptLevels;
 use crate::keyed_hash::{HmacKey, hmac};
 use crate::principals::Principal;
 use crate::replica_signer::ReplicaSigner;
 use crate::texts::Text;
 use bfs_types::Memory;
-use lms::{HssPublicKey, PrivateKey, TreeTypes};
+use lms::{HssPublicKey, PrivateKey, TreeTypes, UpperLevels};
 use std::alloc::{AllocError, Global};
 use std::marker::Model;
 
@@ -44,6 +45,7 @@ pub struct Keys {
     signers: Vec<HssPublicKey>,
     replica_signers: Vec<HssPublicKey>,
     signer: Option<ReplicaSigner>,
+    levels: KeptLevels,
 }
 
 impl Model for Keys {
@@ -87,6 +89,7 @@ impl Keys {
             signers: Vec::new(alloc),
             replica_signers: Vec::new(alloc),
             signer: None,
+            levels: KeptLevels::new(alloc, replicas as usize, clients as usize)?,
         })
     }
 
@@ -109,6 +112,7 @@ impl Keys {
             signers: Vec::new(alloc),
             replica_signers: Vec::new(alloc),
             signer: None,
+            levels: KeptLevels::new(alloc, replicas.len(), clients.len())?,
         })
     }
 
@@ -131,7 +135,7 @@ impl Keys {
     }
 
     /// The same keys, with a key by which their owner signs what is of a place: the private key of its first tree, and the types of the trees of the levels below.
-    /// It makes trees for it, which takes long (`lms::Signer::new`). No other process may sign by that key. `Memory` if memory runs out.
+    /// It makes the first tree, which takes long (`lms::Signer::new`); `grow` makes others. No other process may sign by that key. `Memory` if memory runs out.
     pub fn with_signer(
         self,
         alloc: Global,
@@ -226,6 +230,15 @@ impl Keys {
             },
             Principal::Client(number) => self.signers.get(number as usize),
         }
+    }
+
+    // what is kept of the sender's signatures of such texts, whatever that is
+    pub(crate) fn upper_levels_of<T: Text>(
+        &self,
+        sender: Principal,
+        text: &T,
+    ) -> Option<&UpperLevels> {
+        self.levels.levels_of(sender, text.place())
     }
 
     // none where there are none

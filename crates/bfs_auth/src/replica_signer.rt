@@ -17,14 +17,16 @@ use std::marker::Model;
 use std::sync::Mutex;
 
 /// A private key of one to eight levels, of which each text is signed by the index of its place. To a contract it is that key. Beside it stand the trees that signed
-/// last: for votes, for CHECKPOINTs and for changes of the view, since each of these goes through its indexes in rising order.
+/// last, and those that grow: for votes, for CHECKPOINTs and for changes of the view, since each of these goes through its indexes in rising order.
 #[derive(Drop)]
 pub(crate) struct ReplicaSigner {
     first: PrivateKey,
     below: Vec<TreeTypes>,
-    votes: Mutex<Signer>,
-    checkpoints: Mutex<Signer>,
-    changes: Mutex<Signer>,
+    pub(crate) votes: Mutex<Signer>,
+    pub(crate) checkpoints: Mutex<Signer>,
+    pub(crate) changes: Mutex<Signer>,
+    // in which view and behind which number all trees are ready
+    pub(crate) ready: Mutex<Option<(u64, u64)>>,
 }
 
 impl Model for ReplicaSigner {
@@ -40,7 +42,7 @@ impl Model for ReplicaSigner {
 }
 
 impl ReplicaSigner {
-    // makes the trees that sign first, which takes long
+    // makes the first tree, which takes long
     pub(crate) fn new(
         alloc: Global,
         first: PrivateKey,
@@ -49,11 +51,13 @@ impl ReplicaSigner {
         requires { vec_len below < most_levels }
         ensures { IfOk result (λ signer. signer ≡ record { first = first; below = below.items }) }
     {
+        let votes = Signer::new(alloc, first, &below)?;
         Ok(ReplicaSigner {
             first,
-            votes: Mutex::new(Signer::new(alloc, first, &below)?),
-            checkpoints: Mutex::new(Signer::new(alloc, first, &below)?),
-            changes: Mutex::new(Signer::new(alloc, first, &below)?),
+            checkpoints: Mutex::new(votes.try_clone(alloc)?),
+            changes: Mutex::new(votes.try_clone(alloc)?),
+            votes: Mutex::new(votes),
+            ready: Mutex::new(None),
             below,
         })
     }
@@ -89,7 +93,7 @@ impl ReplicaSigner {
 
     // the index that signs what is of the place
     #[tactic(auto, unfolding(crate::specs::Places::index_of))]
-    fn index_of(&self, place: Place) -> Option<u64>
+    pub(crate) fn index_of(&self, place: Place) -> Option<u64>
         ensures { result ≡ index_of self.now place }
     {
         match place {
@@ -136,6 +140,9 @@ impl ReplicaSigner {
         let Some(index) = self.index_of(place) else {
             return Ok(None);
         };
+        if let Place::Vote { .. } = place {
+            self.share_changes(alloc, index);
+        }
         let signed = match self.sign_leaf(alloc, self.trees(place), index, &leaf_hash(text)) {
             Ok(signed) => signed,
             Err(SignError::NoIndex) => unreachable!(),

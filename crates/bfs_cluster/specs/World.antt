@@ -39,22 +39,23 @@ pub record World : Type 0 where
   -- what replicas sent since it was asked for last, in that order; none as long as nobody watches
   pub watched : Option (List Sent)
 
+abbrev pub heard_replica : Node → Replica
+heard_replica node = record { heard = true; node = node }
+
+-- these replicas, by their numbers, between which nothing was sent
+abbrev pub world_of : List Replica → World
+world_of replicas = record { replicas = replicas; queue = []; replies = []; turn = None; watched = None }
+
 -- all are heard, and have done nothing
 abbrev pub new_replica : Settings → (number : ℕ) → Replica
-new_replica settings number = record { heard = true; node = new_node (keys_of_replica settings number) }
+new_replica settings number = heard_replica (new_node (keys_of_replica settings number))
 
 abbrev pub new_world : Settings → World
-new_world settings = record {
-  replicas = map (new_replica settings) (range_with_len 0 (replicas_for settings.f));
-  queue = [];
-  replies = [];
-  turn = None;
-  watched = None;
-}
+new_world settings = world_of (map (new_replica settings) (range_with_len 0 (replicas_for settings.f)))
 
 -- what a call leaves in which memory ran out: no replica, and nothing that was sent
 abbrev pub emptied : World
-emptied = record { replicas = []; queue = []; replies = []; turn = None; watched = None }
+emptied = world_of []
 
 -- Who watches ------------------------------------------------------------------------------------------------------------
 

@@ -1,5 +1,5 @@
-ghost use Rattle.std.specs.Prelude.{◌≡◌, false, true, [], IfOk};
-ghost use Rattle.bfs_cluster.specs.World.{emptied, hearing, new_world};
+ghost use Rattle.std.specs.Prelude.{◌≡◌, false, true, [], map, IfOk};
+ghost use Rattle.bfs_cluster.specs.World.{emptied, heard_replica, hearing, new_world, world_of};
 
 use crate::replica::Replica;
 use crate::watching::Sent;
@@ -61,18 +61,29 @@ impl Cluster {
     {
         let mut replicas = Vec::new(alloc);
         for number in 0..settings.replicas() {
-            replicas.push(Replica {
-                heard: true,
-                node: Node::of_settings(alloc, settings, number)?,
-            })?;
+            replicas.push(heard(Node::of_settings(alloc, settings, number)?))?;
         }
-        Ok(Cluster {
+        Ok(Cluster::of_replicas(alloc, replicas))
+    }
+
+    /// These replicas, by their numbers, all heard, between which nothing was sent: of keys that no settings say, as of those that sign. `Memory` if memory runs out.
+    pub fn of_nodes(alloc: Global, nodes: Vec<Node>) -> Result<Cluster, Memory>
+        ensures { IfOk result (λ cluster. cluster ≡ world_of (map heard_replica nodes.items)) }
+    {
+        let replicas = nodes.into_iter().map(heard).collect(alloc)?;
+        Ok(Cluster::of_replicas(alloc, replicas))
+    }
+
+    fn of_replicas(alloc: Global, replicas: Vec<Replica>) -> Cluster
+        ensures { result ≡ world_of replicas.items }
+    {
+        Cluster {
             alloc,
             replicas,
             queue: VecDeque::new(alloc),
             replies: Vec::new(alloc),
             watched: None,
-        })
+        }
     }
 
     /// The replica sends and receives nothing from now on, and executes nothing. Where there is none of that number, nothing changes.
@@ -116,4 +127,10 @@ impl Cluster {
         self.watched = None;
         Memory
     }
+}
+
+fn heard(node: Node) -> Replica
+    ensures { result ≡ heard_replica node }
+{
+    Replica { heard: true, node }
 }

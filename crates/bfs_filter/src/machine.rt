@@ -22,4 +22,8 @@ pub trait Machine {
         // It is what the bound says, which the proof of a trait's method doesn't take from there.
         requires { IsSync H.row }
         ensures { IfOk result (λ parcels. takes self.old turn parcels.items self.new) };
+
+    /// Does a little of what is due behind turns, a millisecond's work at most, such as making what later ones will need. It gives whether it did anything, so that
+    /// there may be more to do. Nothing that is told hangs on it.
+    fn rest(&self) -> bool;
 }

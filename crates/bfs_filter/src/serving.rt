@@ -12,7 +12,8 @@ use std::sync::Wait;
 use std::thread::Threads;
 
 /// Reads turns, has the machine take each, and writes its answer, until the input ends. A turn's answer is written once the machine has taken the turn, in
-/// the turns' order. After an `Err` the process is to end: the reader may stand within a turn, and a part of an answer may be written.
+/// the turns' order. Before the first turn the machine rests until nothing is due, and behind each answer once. After an `Err` the process is to end: the reader may
+/// stand within a turn, and a part of an answer may be written.
 #[tactic(auto, using(crate::proofs::Folding::served_none, crate::proofs::Folding::served_more, crate::proofs::Folding::served_all))]
 pub fn serve<M: Machine, H: Threads + Wait + Sync, R: Read, W: Write>(
     alloc: Global,
@@ -28,7 +29,9 @@ pub fn serve<M: Machine, H: Threads + Wait + Sync, R: Read, W: Write>(
     ensures stopped { IfErr result (λ error. Stops M.takes limits.now error
         (standing machine.old (R.remaining reader.old) (W.contents writer.old)) (standing machine.new (R.remaining reader.new) (W.contents writer.new))) }
 {
+    rest_fully(machine);
     for _ in rt.forever() {
+        let _ = machine.rest();
         match serve_turn(alloc, rt, machine, limits, reader, writer) {
             Ok(true) => {}
             Ok(false) => return Ok(()),
@@ -36,6 +39,14 @@ pub fn serve<M: Machine, H: Threads + Wait + Sync, R: Read, W: Write>(
         }
     }
     unreachable!()
+}
+
+fn rest_fully<M: Machine>(machine: &M) {
+    for _ in 0..u64::MAX {
+        if !machine.rest() {
+            return;
+        }
+    }
 }
 
 // the next turn, if there is one; gives whether there was

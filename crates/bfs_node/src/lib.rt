@@ -10,6 +10,7 @@ mod delivering;
 mod error;
 mod executing;
 mod forgetting;
+mod growing;
 mod node;
 mod offering;
 mod receivers;

@@ -90,4 +90,9 @@ impl<F: Folder + Drop> Machine for Keeping<F> {
     ) -> Result<Vec<Parcel>, TurnError> {
         self.take_turn(rt, &turn)
     }
+
+    // The trees grow by which the node signs next.
+    fn rest(&self) -> bool {
+        self.service.node().grow()
+    }
 }

@@ -76,4 +76,8 @@ impl<S: Reserve + Drop> Machine for Reserving<S> {
         self.reserve()?;
         Ok(parcels)
     }
+
+    fn rest(&self) -> bool {
+        false
+    }
 }

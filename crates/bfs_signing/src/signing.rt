@@ -153,4 +153,9 @@ impl<F: Reserve + Drop, G: Reserve + Drop> Machine for Signing<F, G> {
         self.warn(&mut parcels)?;
         Ok(parcels)
     }
+
+    // The trees grow that sign next.
+    fn rest(&self) -> bool {
+        self.signer.grow(self.alloc, self.next) || self.signer.grow_next(self.alloc, self.next)
+    }
 }

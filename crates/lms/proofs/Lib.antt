@@ -2,6 +2,7 @@ mod Parts
 mod DigitSums
 pub mod Steps
 pub mod Nested
+pub mod Upper
 mod Kept
 pub mod Paths
 pub mod Standing

@@ -1,7 +1,10 @@
-ghost use Rattle.std.specs.Prelude.{◌≡◌, ◌<◌, Some, drop};
-ghost use Rattle.lms.specs.Levels.{hss_is_signed, hss_public_key_bytes, hss_public_key_in, hss_verifies, is_formed_over, is_signed_over, most_levels};
+ghost use Rattle.std.specs.Prelude.{◌≡◌, ◌+◌, ◌<◌, ◌≤◌, Some, IfNone, IfSome, length, take};
+ghost use Rattle.lms.specs.Bytes.{word_at};
+ghost use Rattle.lms.specs.Levels.{hss_is_signed, hss_public_key_bytes, hss_public_key_in, hss_verifies, is_formed_over, most_levels};
+ghost use Rattle.lms.specs.UpperLevels.{LeadTo, SignsNothing};
 
 use crate::bytes::{put_at, word_at};
+use crate::levels::{Level, last_level};
 use crate::public_key::PublicKey;
 use crate::verifying::{is_formed, signature_length};
 
@@ -58,27 +61,50 @@ impl HssPublicKey {
     }
 
     /// Whether these are bytes of a signature of the text by this key, as `hss_verify` says.
-    #[tactic(auto, unfolding(crate::specs::Levels::hss_is_signed))]
     pub fn verify(&self, text: &[u8], signature: &[u8]) -> bool
         ensures { result ≡ hss_is_signed self.now text.now signature.now }
     {
-        if signature.len() < 4 {
+        let Some(last) = self.last_level(signature) else {
             return false;
+        };
+        last.verify(text, signature)
+    }
+
+    // The last level of a signature by this key. `None` where the levels above it don't pass, or where it is malformed: nothing is hashed then.
+    pub(crate) fn last_level(&self, signature: &[u8]) -> Option<Level>
+        ensures place { IfSome result (λ last. last.place ≤ length signature.now) }
+        ensures some { IfSome result (λ last. LeadTo self.now (take last.place signature.now) last.key) }
+        ensures none { IfNone result (SignsNothing self.now signature.now) }
+    {
+        let below = self.levels_below(signature)?;
+        let bytes = &signature[4..];
+        if !is_formed_over(below, self.key, bytes) {
+            return None;
+        }
+        let last = last_level(below, self.key, bytes)?;
+        Some(Level {
+            key: last.key,
+            place: 4 + last.place,
+        })
+    }
+
+    // the number of levels below the first one that a signature tells, if it is this key's
+    #[tactic(auto, unfolding(crate::specs::Levels::hss_is_signed))]
+    fn levels_below(&self, signature: &[u8]) -> Option<u32>
+        ensures there { IfSome result (λ below. (4 ≤ length signature.now) × (below ≡ word_at 0 signature.now)) }
+        ensures fits { IfSome result (λ below. (below < most_levels) × (below + 1 ≡ self.now.levels)) }
+        ensures none { IfNone result (SignsNothing self.now signature.now) }
+    {
+        if signature.len() < 4 {
+            return None;
         }
         let below = word_at(signature, 0);
-        below < MOST_LEVELS
-            && below + 1 == self.levels
-            && is_signed_over(below, self.key, text, &signature[4..])
+        if below < MOST_LEVELS && below + 1 == self.levels {
+            Some(below)
+        } else {
+            None
+        }
     }
-}
-
-// whether the bytes are the signatures of the text by a key with so many levels below it
-#[tactic(auto, using(crate::proofs::Nested::over_formed))]
-fn is_signed_over(below: u32, key: PublicKey, text: &[u8], bytes: &[u8]) -> bool
-    requires { below < most_levels }
-    ensures { result ≡ is_signed_over below (Some key) text.now bytes.now }
-{
-    is_formed_over(below, key, bytes) && passes_over(below, key, text, bytes)
 }
 
 // whether the bytes may be the signatures by a key with so many levels below it, of which nothing is hashed
@@ -104,29 +130,4 @@ fn is_formed_over(below: u32, mut key: PublicKey, bytes: &[u8]) -> bool
         rest = behind;
     }
     is_formed(key.lms, key.ots, rest)
-}
-
-// the same, hashed level after level
-fn passes_over(below: u32, mut key: PublicKey, text: &[u8], bytes: &[u8]) -> bool
-    requires { below < most_levels }
-    ensures { result ≡ is_signed_over below (Some key) text.now bytes.now }
-{
-    let mut rest = bytes;
-    for _level in 0..below {
-        let length = signature_length(key.lms, key.ots);
-        if rest.len() < length + PublicKey::LENGTH {
-            return false;
-        }
-        let (signature, behind) = rest.split_at(length);
-        let (next, behind) = behind.split_at(PublicKey::LENGTH);
-        if !key.verify(next, signature) {
-            return false;
-        }
-        match PublicKey::from_bytes(next) {
-            Some(next) => key = next,
-            None => return false,
-        }
-        rest = behind;
-    }
-    key.verify(text, rest)
 }

@@ -5,20 +5,16 @@ ghost use Rattle.lms.specs.Signers.{child_of, head_of, key_at};
 ghost use Rattle.lms.specs.Types.{leaf_count};
 
 use crate::place::Place;
-use crate::private_key::PrivateKey;
-use crate::tree::{Growing, Tree};
+use crate::tree::Tree;
 use std::alloc::{AllocError, Global};
 use std::marker::Model;
-use std::mem;
 
-/// A tree below a leaf of another one, with what shows it: the leaf's signature of its public key, and that key. Beside it the tree that signs next grows, of which no
-/// contract speaks.
+/// A tree below a leaf of another one, with what shows it: the leaf's signature of its public key, and that key.
 #[derive(Drop)]
 pub(crate) struct Link {
     place: Place,
     tree: Tree,
     head: Vec<u8>,
-    next: Growing,
 }
 
 impl Model for Link {
@@ -49,12 +45,7 @@ impl Link {
         let mut head = Vec::new(alloc);
         parent.put_signature(&mut head, place.leaf, &public_key)?;
         head.extend_from_slice(&public_key)?;
-        Ok(Link {
-            place,
-            next: Growing::new(alloc, *tree.key()),
-            tree,
-            head,
-        })
+        Ok(Link { place, tree, head })
     }
 
     pub(crate) fn place(&self) -> Place
@@ -73,28 +64,6 @@ impl Link {
         ensures { result.now ≡ head_of self.now }
     {
         &self.head
-    }
-
-    // the tree of a key: the one that grows, or made anew
-    pub(crate) fn take_tree(&mut self, alloc: Global, key: PrivateKey) -> Result<Tree, AllocError>
-        ensures tree { IfOk result (λ tree. tree ≡ key) }
-        ensures same { self.new ≡ self.old }
-    {
-        if *self.next.key() == key {
-            mem::replace(&mut self.next, Growing::new(alloc, key)).finish()
-        } else {
-            Tree::new(alloc, key)
-        }
-    }
-
-    // lets the tree of a key grow, which is to sign next. Where memory runs out it grows later.
-    pub(crate) fn grow(&mut self, alloc: Global, key: PrivateKey)
-        ensures { self.new ≡ self.old }
-    {
-        if *self.next.key() != key {
-            self.next = Growing::new(alloc, key);
-        }
-        let _ = self.next.grow();
     }
 }
 

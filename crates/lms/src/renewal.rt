@@ -4,12 +4,14 @@ ghost use Rattle.lms.specs.Levels.{most_levels};
 ghost use Rattle.lms.specs.Signers.{count_below, key_at, last_key, last_leaf, places_of};
 ghost use Rattle.lms.specs.Types.{leaf_count};
 
+use crate::growing_trees::GrowingTrees;
 use crate::links::{Link, tree_at};
 use crate::place::Place;
 use crate::private_key::PrivateKey;
-use crate::tree::Tree;
+use crate::tree::{Growing, Tree};
 use crate::types::TreeTypes;
 use std::alloc::{AllocError, Global};
+use std::sync::Mutex;
 
 // how many texts are signed below one leaf. `None` where they are more than indexes are told apart.
 fn count_below(below: &[TreeTypes]) -> Option<u64>
@@ -42,6 +44,7 @@ pub(crate) fn split_index(below: &[TreeTypes], index: u64) -> (u64, u64)
 pub(crate) fn renew(
     alloc: Global,
     first: &Tree,
+    growing: &Mutex<GrowingTrees>,
     links: &mut Vec<Link>,
     below: &[TreeTypes],
     index: u64,
@@ -64,7 +67,7 @@ pub(crate) fn renew(
             types: below[level],
             leaf: leaf as u32,
         };
-        renew_link(alloc, first, links, level, place)?;
+        renew_link(alloc, first, growing, links, level, place)?;
         key = place.key();
         rest = left;
     }
@@ -75,6 +78,7 @@ pub(crate) fn renew(
 fn renew_link(
     alloc: Global,
     first: &Tree,
+    growing: &Mutex<GrowingTrees>,
     links: &mut Vec<Link>,
     level: usize,
     place: Place,
@@ -88,26 +92,30 @@ fn renew_link(
     if level < links.len() && links[level].place() == place {
         return Ok(());
     }
-    let tree = take_tree(alloc, links, level, place.key())?;
+    let tree = take_tree(alloc, growing, place.key())?;
     let link = Link::new(alloc, tree_at(first, links, level), place, tree)?;
     put_link(links, level, link)
 }
 
-// the tree of a key, by the one that stands at the level
+// the tree of a key: the one that grows, or made anew
 fn take_tree(
     alloc: Global,
-    links: &mut Vec<Link>,
-    level: usize,
+    growing: &Mutex<GrowingTrees>,
     key: PrivateKey,
 ) -> Result<Tree, AllocError>
-    ensures tree { IfOk result (λ tree. tree ≡ key) }
-    ensures same { links.new.items ≡ links.old.items }
+    ensures { IfOk result (λ tree. tree ≡ key) }
 {
-    if level < links.len() {
-        links[level].take_tree(alloc, key)
-    } else {
-        Tree::new(alloc, key)
+    match take_growing(growing, &key) {
+        Some(tree) => tree.finish(),
+        None => Tree::new(alloc, key),
     }
+}
+
+fn take_growing(growing: &Mutex<GrowingTrees>, key: &PrivateKey) -> Option<Growing>
+    ensures { IfSome result (λ tree. tree ≡ key.now) }
+{
+    let mut trees = growing.try_lock()?;
+    trees.take(key)
 }
 
 fn put_link(links: &mut Vec<Link>, level: usize, link: Link) -> Result<(), AllocError>
@@ -123,38 +131,18 @@ fn put_link(links: &mut Vec<Link>, level: usize, link: Link) -> Result<(), Alloc
     Ok(())
 }
 
-// Lets the trees grow that sign behind those of the index. No contract says which these are, since nothing but time hangs on it.
-pub(crate) fn grow_next(
-    alloc: Global,
-    first: &Tree,
-    links: &mut Vec<Link>,
-    below: &[TreeTypes],
-    index: u64,
-)
-    requires { length below.now < most_levels }
-    ensures { links.new.items ≡ links.old.items }
-{
-    for level in 0..links.len() {
-        if let Some(key) = key_behind(*first.key(), below, index, level) {
-            links[level].grow(alloc, key);
-        }
-    }
-}
-
-// the key of the tree that signs at a level behind that of the index, if there is one
-fn key_behind(
+// the key of the tree that signs at a level with an index. `None` where there is none.
+pub(crate) fn key_with(
     first: PrivateKey,
     below: &[TreeTypes],
     index: u64,
     level: usize,
 ) -> Option<PrivateKey>
-    requires { length below.now < most_levels }
+    requires levels { length below.now < most_levels }
+    requires level { level < length below.now }
 {
-    if level >= below.len() {
-        return None;
-    }
     let mut key = first;
-    let mut rest = index.checked_add(count_below(&below[level..])?)?;
+    let mut rest = index;
     for number in 0..=level {
         let (leaf, left) = split_index(&below[number..], rest);
         let leaf = u32::try_from(leaf).ok()?;
@@ -165,4 +153,13 @@ fn key_behind(
         rest = left;
     }
     Some(key)
+}
+
+// An index that a next tree of these levels signs with, once that is to grow: of the last level always, and above it behind the half of a tree, so that one level's
+// growing is left time beside another's. `None` where there is none.
+pub(crate) fn index_ahead(below: &[TreeTypes], index: u64) -> Option<u64>
+    requires { length below.now < most_levels }
+{
+    let count = count_below(below)?;
+    index.checked_add(if below.len() == 1 { count } else { count / 2 })
 }

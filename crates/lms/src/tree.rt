@@ -41,6 +41,16 @@ impl Tree {
         Growing::new(alloc, key).finish()
     }
 
+    /// A copy. The error is want of memory.
+    pub(crate) fn try_clone(&self, alloc: Global) -> Result<Tree, AllocError>
+        ensures { IfOk result (λ copy. copy ≡ self.now) }
+    {
+        Ok(Tree {
+            key: self.key,
+            nodes: Vec::from_slice(alloc, &self.nodes)?,
+        })
+    }
+
     pub(crate) fn key(&self) -> &PrivateKey
         ensures { result.now ≡ self.now }
     {
@@ -161,6 +171,29 @@ impl Growing {
         ensures { result.now ≡ self.now }
     {
         &self.key
+    }
+
+    // with the nodes of a tree
+    pub(crate) fn of_tree(tree: Tree) -> Growing
+        ensures { result ≡ tree }
+    {
+        let Tree { key, nodes } = tree;
+        Growing { key, nodes }
+    }
+
+    // a copy as far as it has grown
+    pub(crate) fn try_clone(&self, alloc: Global) -> Result<Growing, AllocError>
+        ensures { IfOk result (λ copy. copy ≡ self.now) }
+    {
+        Ok(Growing {
+            key: self.key,
+            nodes: Vec::from_slice(alloc, &self.nodes)?,
+        })
+    }
+
+    // whether all nodes are made
+    pub(crate) fn is_whole(&self) -> bool {
+        self.nodes.len() >= node_count(&self.key) as usize
     }
 
     // makes one leaf, which takes a thousand compressions of SHA-256 where its chains have 15 steps, or once all are made some of the nodes over them

@@ -6,7 +6,7 @@ use lms::{HssPublicKey, Signer};
 use std::fs;
 use std::rt::Runtime;
 
-/// The signer of the private key in that file, whose public key is that of the clients whose keys these are. It takes long to make its first trees.
+/// The signer of the private key in that file, whose public key is that of the clients whose keys these are. It takes long to make its first tree.
 pub(crate) fn signer_at<R: Runtime + AllocGlobal>(
     rt: &R,
     deployment: &Deployment,

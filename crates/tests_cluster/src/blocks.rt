@@ -1,7 +1,7 @@
 //! Blocks of requests, where all replicas are heard.
 use crate::run::{
-    common_digest, four_replicas, large_request, null_request, replies, run_block, standings,
-    two_clients,
+    common_digest, four_nodes, four_replicas, large_request, null_request, replies, run_block,
+    standings, two_clients,
 };
 use bfs_clients::Clients;
 use bfs_messages::{Message, Signed};
@@ -23,6 +23,25 @@ fn each_replica_answers_and_all_stand_alike(rt: HostRuntime) -> Result<(), Fail>
     let after = common_digest(&all);
     // the clients' last replies are part of it
     holds!(rt; before.is_some() && after.is_some() && before != after);
+    Ok(())
+}
+
+#[test]
+fn replicas_that_were_made_apart_are_those_of_the_settings(rt: HostRuntime) -> Result<(), Fail> {
+    let alloc = rt.alloc();
+    let clients = two_clients(alloc)?;
+    let (mut apart, mut cluster) = (four_nodes(alloc)?, four_replicas(alloc)?);
+    run_block(&rt, &mut apart, 1, &[null_request(alloc, &clients, 1, 7)?])?;
+    run_block(
+        &rt,
+        &mut cluster,
+        1,
+        &[null_request(alloc, &clients, 1, 7)?],
+    )?;
+    same!(rt; replies(&mut apart), 4);
+    let given = common_digest(&standings(&rt, &apart)?);
+    let wanted = common_digest(&standings(&rt, &cluster)?);
+    holds!(rt; given.is_some() && given == wanted);
     Ok(())
 }
 

@@ -2,6 +2,7 @@
 use bfs_clients::Clients;
 use bfs_cluster::{Cluster, Executor, NoGate, Standing};
 use bfs_messages::{Message, Request, Signed};
+use bfs_node::Node;
 use bfs_settings::{Settings, SettingsError};
 use bfs_testing::words::call;
 use bfs_types::{Memory, Time};
@@ -32,6 +33,16 @@ pub fn two_clients(alloc: Global) -> Result<Clients, Fail> {
 pub fn four_replicas(alloc: Global) -> Result<Cluster, Fail> {
     let settings = settings(alloc, 2)?;
     Ok(Cluster::new(alloc, &settings)?)
+}
+
+/// The same, of which each was made apart.
+pub fn four_nodes(alloc: Global) -> Result<Cluster, Fail> {
+    let settings = settings(alloc, 2)?;
+    let mut nodes = Vec::new(alloc);
+    for number in 0..settings.replicas() {
+        nodes.push(Node::of_settings(alloc, &settings, number)?)?;
+    }
+    Ok(Cluster::of_nodes(alloc, nodes)?)
 }
 
 // no test needs what the contract says of it

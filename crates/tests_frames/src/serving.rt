@@ -5,6 +5,7 @@ use bfs_frames::{Kind, Limits, Parcel, To, Turn};
 use bfs_testing::asserts::compared;
 use bfs_testing::{holds, same};
 use std::alloc::{AllocError, Global};
+use std::cell::Cell;
 use std::io::{Error, ErrorKind, Write};
 use std::sync::Wait;
 use std::test::Fail;
@@ -14,6 +15,8 @@ use std::thread::Threads;
 struct Echo {
     alloc: Global,
     turns: u32,
+    // how often it has rested; something is due the first three times
+    rests: Cell<u32>,
 }
 
 impl Machine for Echo {
@@ -39,6 +42,12 @@ impl Machine for Echo {
         }
         Ok(parcels)
     }
+
+    fn rest(&self) -> bool {
+        let rests = self.rests.get();
+        self.rests.set(rests.saturating_add(1));
+        rests < 3
+    }
 }
 
 // a turn of a line and of a frame of no kind, and its answer; a turn without frames, and its answer; turns that are refused, and one that is cut
@@ -57,6 +66,16 @@ const REPORT: &str = "0000000100000004000000010a00000000";
 const CUT: &str = "0000000100000004000000010a000000";
 
 const BAD_TIME: &str = "00000001ffffffff000000010a00000000";
+
+impl Echo {
+    fn new(alloc: Global) -> Echo {
+        Echo {
+            alloc,
+            turns: 0,
+            rests: Cell::new(0),
+        }
+    }
+}
 
 fn serves<R: Threads + Wait + Sync, W: Write>(
     rt: &R,
@@ -83,7 +102,7 @@ fn served<R: Threads + Wait + Sync>(
     room: usize,
 ) -> Result<String, Fail> {
     let input = hex::decode(alloc, turns)?;
-    let mut echo = Echo { alloc, turns: 0 };
+    let mut echo = Echo::new(alloc);
     let mut writer = Narrow::new(alloc, room);
     let ended = serves(rt, &mut echo, input.as_slice(), &mut writer);
     let words = words_of(alloc, ended)?;
@@ -99,6 +118,18 @@ fn turns_are_answered_until_the_end(rt: HostRuntime) -> Result<(), Fail> {
     same!(rt; served(&rt, alloc, input.as_str(), 100)?, output);
     let nothing = served(&rt, alloc, "", 100)?;
     holds!(rt; nothing.as_str() == "0 the end ");
+    Ok(())
+}
+
+#[test]
+fn a_machine_rests_before_the_first_turn_and_behind_each(rt: HostRuntime) -> Result<(), Fail> {
+    let alloc = rt.alloc();
+    let input = hex::decode(alloc, EMPTY)?;
+    let mut echo = Echo::new(alloc);
+    let mut writer = Narrow::new(alloc, 100);
+    holds!(rt; serves(&rt, &mut echo, input.as_slice(), &mut writer).is_ok());
+    // until nothing is due, before the turn, and behind it
+    same!(rt; echo.rests.get(), 4 + 1 + 1);
     Ok(())
 }
 

@@ -4,6 +4,10 @@
 
 mod changes;
 #[cfg(test)]
+mod growing;
+#[cfg(test)]
+mod kept;
+#[cfg(test)]
 mod parts;
 mod rising;
 #[cfg(test)]

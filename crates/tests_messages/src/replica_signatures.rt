@@ -1,7 +1,7 @@
 //! What replicas sign by keys of their own: all who know their public keys take it, by the index of its place.
 use bfs_auth::{
-    Authenticator, Keys, Place, Principal, an_index_is_of_one_place, check, place_in, sign,
-    signed_alone_as_among_many, what_a_key_signs_passes,
+    Authenticator, Keys, MOST_SIGNATURE_BYTES, Place, Principal, an_index_is_of_one_place, check,
+    place_in, sign, signed_alone_as_among_many, what_a_key_signs_passes,
 };
 use bfs_testing::{holds, same};
 use bfs_types::Memory;
@@ -101,6 +101,33 @@ fn each_kind_passes_at_all_and_of_nobody_else(rt: HostRuntime) -> Result<(), Fai
     Ok(())
 }
 
+// how often trees grow in a view, behind a number
+fn grow(alloc: Global, keys: &Keys, view: u64, number: u64) -> u32 {
+    for count in 0u32..1_000 {
+        if !keys.grow(alloc, view, number) {
+            return count;
+        }
+    }
+    1_000
+}
+
+#[test]
+fn trees_that_have_grown_sign_alike(rt: HostRuntime) -> Result<(), Fail> {
+    let alloc = rt.alloc();
+    let grown = signing(alloc, &[])?;
+    let anew = signing(alloc, &[])?;
+    holds!(rt; grow(alloc, &grown, 0, 6) > 0);
+    same!(rt; grow(alloc, &grown, 0, 6), 0);
+    for (tag, first, second) in KINDS.iter().copied() {
+        let said = text(tag, first, second);
+        let (one, other) = (sign(alloc, &grown, &said)?, sign(alloc, &anew, &said)?);
+        holds!(rt; one.signature() == other.signature());
+        let _ = grow(alloc, &grown, 1, 7);
+    }
+    same!(rt; grow(alloc, &keys_of(alloc, 1, &[])?, 0, 6), 0);
+    Ok(())
+}
+
 #[test]
 fn a_commit_has_keyed_hashes(rt: HostRuntime) -> Result<(), Fail> {
     let alloc = rt.alloc();
@@ -125,6 +152,51 @@ fn a_prepare_passes_by_keyed_hashes_only_of_those_with_no_public_key(
     same!(rt; auth.entries().len(), 4);
     holds!(rt; passes_at_all(&receivers(alloc, &[])?, SENDER, &prepare, &auth));
     holds!(rt; !passes_somewhere(&receivers(alloc, &known)?, SENDER, &prepare, &auth));
+    Ok(())
+}
+
+// the same signature but for the byte at a place
+fn changed(alloc: Global, auth: &Authenticator, place: usize) -> Result<Authenticator, Fail> {
+    let mut bytes = Vec::from_slice(alloc, auth.signature().ok_or("no signature")?)?;
+    let byte = bytes.get_mut(place).ok_or("too few bytes")?;
+    *byte ^= 1;
+    if bytes.len() > MOST_SIGNATURE_BYTES {
+        return Err(Fail::from("too many bytes"));
+    }
+    Ok(Authenticator::of_signature(alloc, &bytes)?)
+}
+
+// of the upper level, of the public key that it signs, and of the last level
+static PLACES: [usize; 3] = [1_000, 2_400, 4_000];
+
+// by trees that come again
+static IN_TURN: [(u8, u8, u8); 6] = [
+    (3, 1, 7),
+    (5, 10, 0),
+    (3, 1, 8),
+    (5, 20, 0),
+    (3, 2, 1),
+    (3, 1, 9),
+];
+
+#[test]
+fn votes_and_checkpoints_in_turn(rt: HostRuntime) -> Result<(), Fail> {
+    let alloc = rt.alloc();
+    let known = public_keys(alloc)?;
+    let mine = signing(alloc, &known)?;
+    let receivers = [keys_of(alloc, 0, &known)?];
+    for (tag, first, second) in IN_TURN.iter().copied() {
+        let said = text(tag, first, second);
+        let auth = sign(alloc, &mine, &said)?;
+        for place in PLACES.iter().copied() {
+            let changed = changed(alloc, &auth, place)?;
+            holds!(rt; !passes_somewhere(&receivers, SENDER, &said, &changed));
+            holds!(rt; passes_at_all(&receivers, SENDER, &said, &auth));
+        }
+        holds!(rt; !passes_somewhere(&receivers, 1, &said, &auth));
+        let other = text(tag, first, second.wrapping_add(1));
+        holds!(rt; !passes_somewhere(&receivers, SENDER, &other, &auth));
+    }
     Ok(())
 }
 

@@ -3,7 +3,7 @@ use bfs_auth::{Authenticator, Checker, Keys, MOST_SIGNATURE_BYTES, Principal, ch
 use bfs_signatures::{leaf_hash, sign_all};
 use bfs_testing::{holds, same};
 use bfs_types::{Memory, TryClone};
-use lms::{HssPublicKey, LmsType, OtsType, PrivateKey, Signer};
+use lms::{HssPublicKey, LmsType, OtsType, PrivateKey, Signer, TreeTypes};
 use std::alloc::{AllocError, Global};
 use std::test::Fail;
 
@@ -11,15 +11,19 @@ const REQUEST: &[u8] = b"a request";
 
 static TEXTS: [&[u8]; 5] = [b"one", b"two", b"three", b"four", b"five"];
 
-// of one level, with these bytes for all its secrets
-fn signer(alloc: Global, byte: u8) -> Result<Signer, AllocError> {
-    let key = PrivateKey {
+// with these bytes for all its secrets
+fn key(byte: u8) -> PrivateKey {
+    PrivateKey {
         lms: LmsType::H5,
         ots: OtsType::W4,
         id: [byte; 16],
         seed: [byte; 32],
-    };
-    Signer::new(alloc, key, &[])
+    }
+}
+
+// of one level
+fn signer(alloc: Global, byte: u8) -> Result<Signer, AllocError> {
+    Signer::new(alloc, key(byte), &[])
 }
 
 fn authenticator(alloc: Global, bytes: &[u8]) -> Result<Authenticator, Fail> {
@@ -164,6 +168,30 @@ fn two_roots_in_turn(rt: HostRuntime) -> Result<(), Fail> {
     let asked = [(0, 0), (1, 6), (2, 2), (3, 8), (4, 8), (4, 9), (3, 4)];
     let wanted = [true, true, true, true, false, true, false];
     same!(rt; answers(alloc, &keys, &auths, &asked)?.as_slice(), wanted.as_slice());
+    Ok(())
+}
+
+// by the first tree of the second level, by the next one, and by the first again
+static INDEXES: [u64; 4] = [0, 1, 32, 2];
+
+#[test]
+fn roots_of_two_trees_in_turn(rt: HostRuntime) -> Result<(), Fail> {
+    let alloc = rt.alloc();
+    let below = [TreeTypes {
+        lms: LmsType::H5,
+        ots: OtsType::W2,
+    }];
+    let mut first = Signer::new(alloc, key(1), &below)?;
+    let keys = keys_of_replica(alloc, 0, &[first.public_key()])?;
+    let asked = [(0, 0), (1, 5), (1, 1), (2, 2), (4, 4)];
+    let wanted = [true, false, true, true, true];
+    for index in INDEXES.iter().copied() {
+        let mut auths = signed_at_once(alloc, &mut first, index)?;
+        let upper = changed(alloc, auths.get(1).ok_or("no signature")?, 6_000)?;
+        auths.push(upper)?;
+        same!(rt; answers(alloc, &keys, &auths, &asked)?.as_slice(), wanted.as_slice());
+        same!(rt; answers(alloc, &keys, &auths, &[(1, 5), (1, 1)])?.as_slice(), [false, true].as_slice());
+    }
     Ok(())
 }
 

@@ -199,6 +199,31 @@ fn requests_of_a_turn_are_signed_by_one_index(rt: HostRuntime) -> Result<(), Fai
     signs(&rt, rt.alloc())
 }
 
+// how often it rests until nothing is due
+fn rest(relay: &TestRelay) -> u32 {
+    for count in 0u32..1_000 {
+        if !relay.rest() {
+            return count;
+        }
+    }
+    1_000
+}
+
+fn rests<R: Threads + Wait + Sync + Abort>(rt: &R, alloc: Global) -> Result<(), Fail> {
+    let mut relay = relay_with(alloc, 2, &THREE, Store::at(0))?;
+    // two trees of 32 leaves that sign first, and the one that signs next
+    same!(rt; rest(&relay.0), 3 * 33);
+    same!(rt; leave(rt, alloc, &mut relay, 1, 1, 0)?, Some(1));
+    same!(rt; rest(&relay.0), 0);
+    same!(rt; leave(rt, alloc, &mut relay, 1, 1, 1)?, Some(1));
+    Ok(())
+}
+
+#[test]
+fn trees_grow_while_a_relay_rests(rt: HostRuntime) -> Result<(), Fail> {
+    rests(&rt, rt.alloc())
+}
+
 // the relay's next life
 fn begins_above<R: Threads + Wait + Sync + Abort>(rt: &R, alloc: Global) -> Result<(), Fail> {
     let mut relay = relay_with(alloc, 2, &THREE, Store::at(0))?;

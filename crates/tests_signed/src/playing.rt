@@ -60,6 +60,18 @@ fn first_of(liars: Set) -> u32 {
     liars.0.trailing_zeros() % 4
 }
 
+// what is on its way to others than these is lost
+fn lose_others(world: &mut World, to: Set) -> Result<(), Memory> {
+    let mut left = Vec::new(world.alloc);
+    for flight in &world.on_their_way {
+        if to.has(flight.to) {
+            left.push(*flight)?;
+        }
+    }
+    world.on_their_way = left;
+    Ok(())
+}
+
 /// In which form a liar sends a copy: half of them as it does where it doesn't lie.
 pub fn form(draws: &mut Generator) -> Form {
     match below(draws, 8) {
@@ -199,18 +211,28 @@ impl Play {
         exchange(rt, &mut self.world, draws, hear, loss)
     }
 
-    // numbers are ordered up to a checkpoint, of which one replica hears nothing yet
+    // one of those that don't lie
+    fn any_correct(&self, draws: &mut Generator) -> usize {
+        let number = any_of(draws, 4);
+        if self.correct().has(number) {
+            number
+        } else {
+            number.wrapping_add(1) % 4
+        }
+    }
+
+    // Numbers are ordered up to a checkpoint, and one that doesn't lie hears nothing of them: behind it that can only adopt what the others have.
     fn run_up<R: Threads + Wait + Sync>(
         &mut self,
         rt: &R,
         draws: &mut Generator,
     ) -> Result<(), Memory> {
-        let hear = Set::of(any_of(draws, 4)).others();
+        let hear = Set::of(self.any_correct(draws)).others();
         for _ in 0..NUMBERS {
             self.world.propose(0)?;
             exchange(rt, &mut self.world, draws, hear, 0)?;
         }
-        Ok(())
+        lose_others(&mut self.world, hear)
     }
 
     /// Rounds in which messages are lost, repeated and late, and replicas leave views for nothing.
@@ -219,7 +241,7 @@ impl Play {
         rt: &R,
         draws: &mut Generator,
     ) -> Result<(), Memory> {
-        if happens(draws, 25) {
+        if happens(draws, 50) {
             self.run_up(rt, draws)?;
         }
         for _ in 0..ROUNDS {

@@ -18,7 +18,7 @@ const SCHEDULES: u64 = 10;
 const LEAST: Seen = Seen {
     numbers: 10,
     views: 20,
-    adoptions: 0,
+    adoptions: 3,
     lies: 20,
 };
 

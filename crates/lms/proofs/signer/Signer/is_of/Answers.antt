@@ -1,7 +1,5 @@
-use Rattle.std.proofs.Common.{◌≡◌, List, sym, ap, ◌∙◌}
+use Rattle.std.proofs.Common.{◌≡◌, sym, ap, ◌∙◌}
 use Rattle.std.proofs.lemmas.Slice.Eq.{slice_eq-Decides}
-use Rattle.lms.specs.declared.types.TreeTypes.{TreeTypes}
-use Rattle.lms.specs.declared.private_key.PrivateKey.{PrivateKey}
 use Rattle.lms.proofs.Ways.{key_decides, types_decide}
 use Rattle.lms.proofs.signer.Signer.is_of.Goals as goal
 
