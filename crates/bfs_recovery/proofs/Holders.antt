@@ -67,7 +67,7 @@ of_step keys node step of =
     let same = step_stays node step in
     record { keys_are = same.keys ∙ of.keys_are; faults_are = same.f ∙ of.faults_are; number_is = same.me ∙ of.number_is }
 
-of_steps : (keys : Keys) (node : Node) (steps : List NodeStep) → IsOf keys node → IsOf keys (after_steps node steps)
+pub of_steps : (keys : Keys) (node : Node) (steps : List NodeStep) → IsOf keys node → IsOf keys (after_steps node steps)
 of_steps keys node [] of = of
 of_steps keys node (step ∷ steps) of = of_steps keys (after_step node step) steps (of_step keys node step of)
 

@@ -1,12 +1,14 @@
 -- What a folder holds behind a turn.
 use Rattle.std.proofs.Common.{◌≡◌, ◌∙◌, ℕ, Bool, true, List, [], ◌∷◌, ◌++◌, map, Option, Some, inl, inr, refl, sym, ap, subst}
 use Rattle.std.specs.Prelude.{◌⊎◌, OnErr, Result, Ok, Err}
+use Rattle.std.proofs.lemmas.Grind.{flat_map-append}
 use Rattle.std.proofs.lemmas.List.{map-append}
 use Rattle.std.proofs.lemmas.List.Sums.{fold-append}
 use Rattle.std.specs.List.{AllByRecursion}
 use Rattle.bfs_auth.specs.Keys.{Keys}
-use Rattle.bfs_frames.specs.Parcels.{Told}
+use Rattle.bfs_frames.specs.Parcels.{Told, told_by}
 use Rattle.bfs_frames.specs.declared.frames.Turn.{Turn}
+use Rattle.bfs_frames.specs.declared.parcels.Parcel.{Parcel}
 use Rattle.bfs_node.specs.Nodes.{Node}
 use Rattle.bfs_node.specs.Saving.{IsOf, IsSavable, text_of}
 use Rattle.bfs_nodes_agree.proofs.Public.{some_is}
@@ -17,37 +19,50 @@ use Rattle.bfs_service.specs.Journals.{AreSpelled, Doing, Journals, with_no_step
 use Rattle.bfs_service.specs.Turns.{Turned}
 use Rattle.bfs_steps.proofs.Public.{bodies_read}
 use Rattle.bfs_steps.specs.Reading.{steps_from, steps_within}
-use Rattle.bfs_steps.specs.Replaying.{after_steps}
-use Rattle.bfs_steps.specs.Steps.{FitSteps, body_text}
-use Rattle.bfs_recovery.proofs.Holders.{of_step, of_turns}
-use Rattle.bfs_recovery.specs.Holding.{Held, IsHeld, after_turns, saved_as, with_body}
-use Rattle.bfs_recovery.specs.Keeping.{IsKept, IsSaved, Saved, Appended, Unchanged}
-use Rattle.bfs_recovery.specs.Turns.{Holds, IsTaken, IsUntold, Living}
+use Rattle.bfs_steps.specs.Replaying.{after_step, after_steps}
+use Rattle.bfs_steps.specs.Steps.{FitsStep, FitSteps, body_text, step_text}
+use Rattle.bfs_recovery.proofs.Holders.{of_step, of_steps, of_turns}
+use Rattle.bfs_recovery.specs.Holding.{AreDue, Held, IsHeld, after_turns, saved_as, with_body}
+use Rattle.bfs_recovery.specs.Keeping.{IsKept, IsKeptOrDue, IsSaved, Keeps, Kept, Due, Saved, Appended, Unchanged, all_due}
+use Rattle.bfs_recovery.specs.Turns.{Holds, IsTaken, IsUntold, KeepsUp, Living, Settled, Waits}
 
-pub fit_both : (xs ys : List (List NodeStep)) → AllByRecursion FitSteps xs → AllByRecursion FitSteps ys → AllByRecursion FitSteps (xs ++ ys)
-fit_both [] ys p q = q
-fit_both (x ∷ xs) ys p q = (p.0, fit_both xs ys p.1 q)
+all_both : {A : Type 0} (P : A → Type 0) (xs ys : List A) → AllByRecursion P xs → AllByRecursion P ys → AllByRecursion P (xs ++ ys)
+all_both P [] ys p q = q
+all_both P (x ∷ xs) ys p q = (p.0, all_both P xs ys p.1 q)
 
 -- a replica with these keys is held
 pub held_of : (keys : Keys) (held : Held) (node : Node) → IsHeld keys held node → IsOf keys node
 held_of keys held node h = subst (IsOf keys) (sym h.node_is) (of_turns keys h.saved h.turns h.holder)
 
--- one record more
-appended : (held : Held) (node now : Node) (steps : List NodeStep) → FitSteps steps → now ≡ after_steps node steps → Holds held node (with_body held (body_text steps)) now
-appended held node now steps fit is keys h = record {
+-- the node alone
+pub saved_alone : (keys : Keys) (node : Node) → IsSavable node → IsOf keys node → IsHeld keys (saved_as (text_of node)) node
+saved_alone keys node savable holder = record { saved = node; savable = savable; holder = holder; text_is = refl; turns = []; each = tt; bodies_are = refl; node_is = refl }
+
+-- What is due ------------------------------------------------------------------------------------------------------------------
+
+-- it is kept as one record more
+due_appended : (keys : Keys) (held : Held) (settled node : Node) (due : List ℕ) → IsHeld keys held settled → AreDue settled due node → IsHeld keys (with_body held due) node
+due_appended keys held settled node due h d = record {
   saved = h.saved;
   savable = h.savable;
   holder = h.holder;
   text_is = h.text_is;
-  turns = h.turns ++ steps ∷ [];
-  each = fit_both h.turns (steps ∷ []) h.each (fit, tt);
-  bodies_are = ap (λ (bodies : List (List ℕ)). bodies ++ body_text steps ∷ []) h.bodies_are ∙ sym (map-append body_text h.turns (steps ∷ []));
-  node_is = is ∙ ap (λ (n : Node). after_steps n steps) h.node_is ∙ sym (fold-append after_steps h.saved h.turns (steps ∷ []));
+  turns = h.turns ++ d.steps ∷ [];
+  each = all_both FitSteps h.turns (d.steps ∷ []) h.each (d.fit, tt);
+  bodies_are = ap (λ (bodies : List (List ℕ)). bodies ++ due ∷ []) h.bodies_are ∙ ap (λ (text : List ℕ). map body_text h.turns ++ text ∷ []) d.due_is
+      ∙ sym (map-append body_text h.turns (d.steps ∷ []));
+  node_is = d.node_is ∙ ap (λ (n : Node). after_steps n d.steps) h.node_is ∙ sym (fold-append after_steps h.saved h.turns (d.steps ∷ []));
 }
 
--- the node alone
-pub saved_alone : (keys : Keys) (node : Node) → IsSavable node → IsOf keys node → IsHeld keys (saved_as (text_of node)) node
-saved_alone keys node savable holder = record { saved = node; savable = savable; holder = holder; text_is = refl; turns = []; each = tt; bodies_are = refl; node_is = refl }
+-- more steps are due behind others
+more_due : (settled node now : Node) (due body : List ℕ) (steps : List NodeStep) → FitSteps steps → body ≡ body_text steps → now ≡ after_steps node steps → AreDue settled due node
+    → AreDue settled (due ++ body) now
+more_due settled node now due body steps fit body_is is d = record {
+  steps = d.steps ++ steps;
+  fit = all_both FitsStep d.steps steps d.fit fit;
+  due_is = ap (λ (text : List ℕ). text ++ body) d.due_is ∙ ap (λ (text : List ℕ). body_text d.steps ++ text) body_is ∙ sym (flat_map-append step_text d.steps steps);
+  node_is = is ∙ ap (λ (n : Node). after_steps n steps) d.node_is ∙ sym (fold-append after_step settled d.steps steps);
+}
 
 read_none : steps_from [] ≡ Some []
 unfolding steps_within
@@ -57,42 +72,56 @@ read_none = refl
 none_spelled : (steps : List NodeStep) → FitSteps steps → body_text steps ≡ [] → [] ≡ steps
 none_spelled steps fit is = some_is [] steps (sym read_none ∙ ap steps_from (sym is) ∙ bodies_read steps fit)
 
-spelled_held : (before doing : Doing) (held : Held) → AreSpelled (with_no_steps before) doing → doing.body ≡ [] → Holds held before.acting.node held doing.acting.node
-spelled_held before doing held s none keys h =
-    let no_steps = none_spelled s.steps s.fit (sym s.body_is ∙ none) in
-    let same : doing.acting.node ≡ before.acting.node = s.node_is ∙ ap (λ (steps : List NodeStep). after_steps before.acting.node steps) (sym no_steps) in
-    subst (λ (n : Node). IsHeld keys held n) (sym same) h
+-- where nothing is due, the node is the one that is held
+pub none_due : (settled node : Node) (due : List ℕ) → due ≡ [] → AreDue settled due node → node ≡ settled
+none_due settled node due none d = d.node_is ∙ ap (after_steps settled) (sym (none_spelled d.steps d.fit (sym d.due_is ∙ none)))
 
--- what was kept of a turn is held
-kept_holds : (turn : Turn) (before doing : Doing) (told : List Told) (old new : Held) → Turned turn before.acting doing.acting told → Journals (with_no_steps before) doing
-    → IsKept doing old new → Holds old before.acting.node new doing.acting.node
-kept_holds turn before doing told old new turned journals (Saved saved) keys h =
-    let holder = turned_keeps (IsOf keys) (of_step keys) turn before.acting doing.acting told turned (held_of keys old before.acting.node h) in
-    subst (λ (held : Held). IsHeld keys held doing.acting.node) (sym saved.is) (saved_alone keys doing.acting.node saved.savable holder)
-kept_holds turn before doing told old new turned journals (Appended spelled is) keys h =
-    let s = journals spelled in
-    subst (λ (held : Held). IsHeld keys held doing.acting.node) (sym (is ∙ ap (with_body old) s.body_is)) (appended old before.acting.node doing.acting.node s.steps s.fit s.node_is keys h)
-kept_holds turn before doing told old new turned journals (Unchanged spelled none is) keys h =
-    subst (λ (held : Held). IsHeld keys held doing.acting.node) (sym is) (spelled_held before doing old (journals spelled) none keys h)
+-- What is kept of a turn -------------------------------------------------------------------------------------------------------
 
-pub is_taken : (turn : Turn) (before doing : Doing) (told : List Told) (old new : Held) → Turned turn before.acting doing.acting told → Journals (with_no_steps before) doing
-    → IsKept doing old new → IsTaken (record { acting = before.acting; held = old }) turn told (record { acting = doing.acting; held = new })
-is_taken turn before doing told old new turned journals kept = record { turned = turned; kept = kept_holds turn before doing told old new turned journals kept }
+abbrev living : Doing → Keeps → Living
+living doing keeps = record { acting = doing.acting; held = keeps.held; due = keeps.due }
 
-pub is_untold : (turn : Turn) (before doing : Doing) (told : List Told) (old new : Held) → Turned turn before.acting doing.acting told → Journals (with_no_steps before) doing
-    → (new ≡ old) ⊎ IsKept doing old new → IsUntold (record { acting = before.acting; held = old }) turn new
-is_untold turn before doing told old new turned journals left = elim left [
-  | inl same ↦ inl same
-  | inr kept ↦ inr (record { acting = doing.acting; told = told; taken = is_taken turn before doing told old new turned journals kept })
-]
+module _ (turn : Turn) (before doing : Doing) (told : List Told) (old : Keeps) (turned : Turned turn before.acting doing.acting told)
+    (journals : Journals (with_no_steps before) doing) where
+  still_due : doing.is_spelled ≡ true → (settled : Node) → AreDue settled old.due before.acting.node → AreDue settled (all_due old doing) doing.acting.node
+  still_due spelled settled d =
+      let s = journals spelled in
+      more_due settled before.acting.node doing.acting.node old.due doing.body s.steps s.fit s.body_is s.node_is d
+
+  kept_holds : (held : Held) → IsKept doing old held → Holds (living before old) held doing.acting.node
+  kept_holds held (Saved saved) keys settled h d =
+      let holder = subst (IsOf keys) (sym d.node_is) (of_steps keys settled d.steps (held_of keys old.held settled h)) in
+      let now = turned_keeps (IsOf keys) (of_step keys) turn before.acting doing.acting told turned holder in
+      subst (λ (x : Held). IsHeld keys x doing.acting.node) (sym saved.is) (saved_alone keys doing.acting.node saved.savable now)
+  kept_holds held (Appended spelled is) keys settled h d =
+      subst (λ (x : Held). IsHeld keys x doing.acting.node) (sym is) (due_appended keys old.held settled doing.acting.node (all_due old doing) h (still_due spelled settled d))
+  kept_holds held (Unchanged spelled none is) keys settled h d =
+      let same = none_due settled doing.acting.node (all_due old doing) none (still_due spelled settled d) in
+      subst (λ (x : Held). IsHeld keys x doing.acting.node) (sym is) (subst (λ (n : Node). IsHeld keys old.held n) (sym same) h)
+
+  keeps_up : (parcels : List Parcel) (new : Keeps) → told ≡ map told_by parcels → IsKeptOrDue doing parcels old new → KeepsUp (living before old) told (living doing new)
+  keeps_up parcels new is (Kept kept none) = Settled (kept_holds new.held kept) none
+  keeps_up parcels new is (Due silent spelled due) =
+      Waits (is ∙ ap (map told_by) silent) (ap (λ (k : Keeps). k.held) due)
+      (λ settled d. subst (λ (k : Keeps). AreDue settled k.due doing.acting.node) (sym due) (still_due spelled settled d))
+
+  pub is_taken : (parcels : List Parcel) (new : Keeps) → told ≡ map told_by parcels → IsKeptOrDue doing parcels old new → IsTaken (living before old) turn told (living doing new)
+  is_taken parcels new is keeps = record { turned = turned; keeps = keeps_up parcels new is keeps }
+
+  pub is_untold : (held : Held) → (held ≡ old.held) ⊎ IsKept doing old held → IsUntold (living before old) turn held
+  is_untold held left = elim left [
+    | inl same ↦ inl same
+    | inr kept ↦ inr (record { acting = doing.acting; told = told; turned = turned; holds = kept_holds held kept })
+  ]
 
 -- What a store does, also where its folder refuses -----------------------------------------------------------------------------
 
-pub saved_or_not : (doing : Doing) (old new : Held) → (new ≡ old) ⊎ IsSaved doing.acting.node new → (new ≡ old) ⊎ IsKept doing old new
-saved_or_not doing old new left = elim left [ inl same ↦ inl same | inr saved ↦ inr (Saved saved) ]
+pub saved_or_not : (doing : Doing) (old : Keeps) (held : Held) → (held ≡ old.held) ⊎ IsSaved doing.acting.node held → (held ≡ old.held) ⊎ IsKept doing old held
+saved_or_not doing old held left = elim left [ inl same ↦ inl same | inr saved ↦ inr (Saved saved) ]
 
-pub appended_or_not : (doing : Doing) (old new : Held) (body : List ℕ) → doing.is_spelled ≡ true → body ≡ doing.body → (new ≡ old) ⊎ (new ≡ with_body old body) → (new ≡ old) ⊎ IsKept doing old new
-appended_or_not doing old new body spelled is left = elim left [ inl same ↦ inl same | inr more ↦ inr (Appended spelled (more ∙ ap (with_body old) is)) ]
+pub appended_or_not : (doing : Doing) (old : Keeps) (held : Held) (body : List ℕ) → doing.is_spelled ≡ true → body ≡ all_due old doing → (held ≡ old.held) ⊎ (held ≡ with_body old.held body)
+    → (held ≡ old.held) ⊎ IsKept doing old held
+appended_or_not doing old held body spelled is left = elim left [ inl same ↦ inl same | inr more ↦ inr (Appended spelled (more ∙ ap (with_body old.held) is)) ]
 
 -- what holds at all holds of an error
 pub on_err : {T E : Type 0} (P : Type 0) (result : Result T E) → P → OnErr result P

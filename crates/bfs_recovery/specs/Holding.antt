@@ -36,3 +36,10 @@ pub record IsHeld (keys : Keys) (held : Held) (node : Node) : Type 0 where
   pub each : AllByRecursion FitSteps turns
   pub bodies_are : held.bodies ≡ map body_text turns
   pub node_is : node ≡ after_turns saved turns
+
+-- steps that are due to be kept are those that it took since it was held, as one body
+pub record AreDue (settled : Node) (due : List ℕ) (node : Node) : Type 0 where
+  pub steps : List NodeStep
+  pub fit : FitSteps steps
+  pub due_is : due ≡ body_text steps
+  pub node_is : node ≡ after_steps settled steps

@@ -8,7 +8,7 @@ use Rattle.bfs_node.specs.Nodes.{Node}
 use Rattle.bfs_nodes_agree.specs.Nodes.Replicas.{Beginning, Keyring, beginning_node}
 use Rattle.bfs_service.specs.Processes.{AreAgreed, HaveTurned, Processes, ProcessTurn, new_processes}
 use Rattle.bfs_votes.specs.Votes.{replicas}
-use Rattle.bfs_recovery.specs.Holding.{Held, IsHeld}
+use Rattle.bfs_recovery.specs.Holding.{AreDue, Held, IsHeld}
 use Rattle.bfs_recovery.specs.Turns.{Begins, IsTaken, IsUntold, Living}
 
 -- What happens -------------------------------------------------------------------------------------------------------------
@@ -55,16 +55,33 @@ HaveHappened keys before (event ∷ events) after = (next : Lives) × Happens ke
 pub record AreNew (f : ℕ) (keys : Keyring) (start : Beginning) (lives : Lives) : Type 0 where
   pub acting : (k : ℕ) → (lives k).acting ≡ new_processes f keys start k
   pub held : (k : ℕ) → k < replicas f → IsHeld (keys k) (lives k).held (beginning_node f keys start k)
+  pub due : (k : ℕ) → (lives k).due ≡ []
 
--- all turns that were answered, and of each process that ended at most the one that it had not answered
+-- a process of that replica ends
+abbrev pub Ends : (who : ℕ) → List Event → Type 0
+Ends who [] = ⊥
+Ends who (Answers t ∷ events) = Ends who events
+Ends who (Restarts other turn ∷ events) = (other ≡ who) ⊎ Ends who events
+
+-- a process told nothing of the turn, and ended
+pub record IsLost (t : ProcessTurn) (events : List Event) : Type 0 where
+  pub silent : t.told ≡ []
+  pub ended : Ends t.who events
+
+-- all turns of which anything was told, and all others but what a process did behind those before it ended; and of each process that ended at most the turn
+-- that it had not answered
 abbrev pub AreKept : List Event → List ProcessTurn → Type 0
 AreKept [] turns = turns ≡ []
-AreKept (Answers t ∷ events) turns = (rest : List ProcessTurn) × (turns ≡ t ∷ rest) × AreKept events rest
+AreKept (Answers t ∷ events) turns = ((rest : List ProcessTurn) × (turns ≡ t ∷ rest) × AreKept events rest) ⊎ (IsLost t events × AreKept events turns)
 AreKept (Restarts who turn ∷ events) turns =
     AreKept events turns ⊎ ((told : List Told) × (rest : List ProcessTurn) × (turns ≡ record { who = who; turn = turn; told = told } ∷ rest) × AreKept events rest)
 
 abbrev pub acting_in : Lives → Processes
 acting_in lives k = (lives k).acting
+
+-- a folder holds what the process is, but for what is due
+abbrev pub IsHeldOrDue : Keys → Living → Type 0
+IsHeldOrDue keys living = (settled : Node) × IsHeld keys living.held settled × AreDue settled living.due living.acting.node
 
 -- Whenever processes end, there are turns without any end that make of them the same and tell all that was told: a crash is a pause. So of processes that crash
 -- holds what is proved of processes
@@ -76,4 +93,4 @@ LivesAgree = (f : ℕ) (keys : Keyring) (start : Beginning) (events : List Event
     → (turns : List ProcessTurn) × AreKept events turns
     × HaveTurned (new_processes f keys start) turns (acting_in after)
     × AreAgreed f keys start turns (acting_in after)
-    × ((k : ℕ) → k < replicas f → IsHeld (keys k) (after k).held (after k).acting.node)
+    × ((k : ℕ) → k < replicas f → IsHeldOrDue (keys k) (after k))

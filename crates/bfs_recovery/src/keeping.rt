@@ -12,7 +12,7 @@ use std::marker::Model;
 use std::sync::Wait;
 use std::thread::Threads;
 
-/// A replica as a process that tells nothing of a turn before what it did in it is kept.
+/// A replica as a process that tells nothing before what it did up to then is kept.
 #[derive(Drop)]
 pub struct Keeping<F: Folder> {
     service: Service,
@@ -28,7 +28,7 @@ impl<F: Folder> Model for Keeping<F> {
 
     ghost coded = { Prim.hlevel (codes, inodes_code) };
 
-    ghost view = { λ one. record { acting = one.service.acting; held = one.store } };
+    ghost view = { λ one. record { acting = one.service.acting; held = one.store.held; due = one.store.due } };
 }
 
 impl<F: Folder + Drop> Keeping<F> {
@@ -42,7 +42,7 @@ impl<F: Folder + Drop> Keeping<F> {
     ) -> Result<Keeping<F>, TurnError>
         ensures { IfOk result (Begins node) }
     {
-        let mut store = Store::new(folder);
+        let mut store = Store::new(alloc, folder);
         store.save(&node)?;
         Ok(Keeping {
             service: Service::new(alloc, node, executor, terms),
@@ -64,8 +64,9 @@ impl<F: Folder + Drop> Keeping<F> {
         self.store.folder()
     }
 
-    /// Takes a turn as a `Service` does, and keeps what the node did in it, if anything, before it gives what is to be told. `Memory` if memory runs out, `Storage` if
-    /// the folder refuses: the process is to end then, and to tell nothing of this turn.
+    /// Takes a turn as a `Service` does, and keeps what the node did in it, if anything, before it gives what is to be told. Where nothing is to be told, what it did
+    /// may wait, and is kept with the next turn of which something is. `Memory` if memory runs out, `Storage` if the folder refuses: the process is to end then, and
+    /// to tell nothing of this turn.
     pub fn take_turn<R: Threads + Wait + Sync>(
         &mut self,
         rt: &R,
@@ -75,7 +76,7 @@ impl<F: Folder + Drop> Keeping<F> {
         ensures untold { OnErr result (IsUntold self.old turn.now self.new.held) }
     {
         let parcels = self.service.take_turn(rt, turn)?;
-        self.store.keep(&self.service)?;
+        self.store.keep(&self.service, &parcels)?;
         Ok(parcels)
     }
 }

@@ -8,7 +8,7 @@ use bfs_places::laws::{one_text_of_each_index, one_text_of_each_place};
 use bfs_service::processes_agree;
 
 /// A crash is a pause: over all lives of all replicas' processes there are turns without any crash that make of them the same and tell all that was told, so replicas
-/// agree. A turn that was not answered may be among these turns or not.
+/// agree. A turn that was not answered may be among these turns or not, and so may one of which nothing was told and behind which the process ended.
 pub fn lives_agree()
     ensures { LivesAgree }
 {

@@ -17,7 +17,7 @@ mod signer;
 
 use crate::folder::{Held, ReplicaFolder};
 use crate::keys::keys_at;
-use crate::same_keys::{digest_at, keep_keys};
+use crate::same_keys::{are_noted, digest_at, note_keys};
 use anyhow::{Context, Error};
 use bfs_auth::Keys;
 use bfs_deployment::{Deployment, parse_deployment};
@@ -146,16 +146,19 @@ fn begin<'a, R: Runtime + Files<File = File> + AllocGlobal + Threads + Wait + Sy
     }
     let lock = folder::lock(rt, folder)?;
     let held = folder::read(rt, folder)?;
-    let next = match &held {
-        Some(held) => held.number.saturating_add(1),
-        None => 0,
+    let digest = digest_at(rt, deployment, paths.keys)?;
+    let replicas_sign = !deployment.replica_signers().is_empty();
+    // by other keys its journal would not be made again
+    let (next, is_noted) = match &held {
+        Some(held) => {
+            (held.number.saturating_add(1), are_noted(rt, folder, &digest, replicas_sign)?)
+        }
+        None => (0, false),
     };
     let node = node_of(rt, keys, held, options)?;
-    let (digest, replicas_sign) = (
-        digest_at(rt, deployment, paths.keys)?,
-        !deployment.replica_signers().is_empty(),
-    );
-    keep_keys(rt, folder, &digest, options.is_new, replicas_sign)?;
+    if !is_noted {
+        note_keys(rt, folder, &digest)?;
+    }
     let folder = ReplicaFolder::new(rt, folder, lock, next);
     Ok(Keeping::begin(rt.alloc(), node, Executor::serial(), terms, folder)?)
 }

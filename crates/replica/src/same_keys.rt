@@ -31,25 +31,32 @@ fn hash_signers(hasher: &mut Sha256, signers: &[HssPublicKey]) {
     }
 }
 
-/// Sees that the folder's replica began with the keys of that digest. It is noted of a new one, and of one that began before folders had it, where replicas don't
-/// sign.
-pub(crate) fn keep_keys<R: Runtime + AllocGlobal>(
+/// Whether it is noted that the folder's replica began with the keys of that digest. It isn't of one that began before folders had it, which is taken where replicas
+/// don't sign; one that began with others is refused.
+pub(crate) fn are_noted<R: Runtime + AllocGlobal>(
     rt: &R,
     folder: &str,
     digest: &[u8; 32],
-    is_new: bool,
     replicas_sign: bool,
-) -> Result<(), Error> {
+) -> Result<bool, Error> {
     let path = format!(in rt.alloc(); "{folder}/{KEYS}")?;
     let noted = read_if_there(rt, path.as_str()).context(path)?;
     if noted.as_slice() == digest.as_slice() {
-        return Ok(());
+        return Ok(true);
     }
-    if is_new || noted.is_empty() && !replicas_sign {
-        write_whole(rt, folder, KEYS, digest)?;
-        return Ok(());
+    if noted.is_empty() && !replicas_sign {
+        return Ok(false);
     }
     Err(Error::msg(
         "it began with other keys, its own or those by which others sign: by these it would forget what it has said",
     ))
+}
+
+/// Notes with which keys the folder's replica begins.
+pub(crate) fn note_keys<R: Runtime + AllocGlobal>(
+    rt: &R,
+    folder: &str,
+    digest: &[u8; 32],
+) -> io::Result<()> {
+    write_whole(rt, folder, KEYS, digest)
 }

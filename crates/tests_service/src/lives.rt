@@ -1,8 +1,8 @@
 //! Replicas whose processes end and begin again.
 use crate::calls::ask;
-use crate::script::Step::{Agree, Answered, Restarts};
+use crate::script::Step::{Agree, Answered, Ask, IsAnswered, Play, Records, Restarts, Stands};
 use crate::script::{Step, plays};
-use crate::world::{ALL, TERMS, THREE, World};
+use crate::world::{ALL, BACKUPS, TERMS, THREE, World};
 use bfs_testing::asserts::compared;
 use std::test::Fail;
 
@@ -29,6 +29,29 @@ static CRASHES: [Step; 16] = [
 #[test]
 fn a_crash_is_a_pause(rt: HostRuntime) -> Result<(), Fail> {
     plays(&rt, rt.alloc(), TERMS, &CRASHES)
+}
+
+// a request alone brings a backup to tell nothing
+static SILENT: [Step; 12] = [
+    // each has told where it stands
+    Play(0, ALL, 2),
+    Ask(3, 7),
+    Play(0, BACKUPS, 1),
+    Stands(1, (0, 0, 1)),
+    Records(1, 0),
+    Restarts(1),
+    Stands(1, (0, 0, 0)),
+    // what waits is kept with what is told first
+    Ask(3, 7),
+    Play(0, ALL, 1),
+    Records(2, 1),
+    Play(0, ALL, 4),
+    IsAnswered(0),
+];
+
+#[test]
+fn what_tells_nothing_waits_to_be_kept(rt: HostRuntime) -> Result<(), Fail> {
+    plays(&rt, rt.alloc(), TERMS, &SILENT)
 }
 
 // the folder takes the node of the beginning, and refuses the record of the turn

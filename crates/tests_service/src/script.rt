@@ -31,8 +31,10 @@ pub enum Step {
     Rubbish(&'static [u8]),
     /// Each is asked for its report.
     AskReport,
-    /// The process of a replica ends, and the next one begins as the same node.
+    /// The process of a replica ends, and the next one begins as the node that there was when something was told last.
     Restarts(u32),
+    /// The folder of a replica has so many records behind the saved one.
+    Records(usize, usize),
     /// So much was told to clients and to operators.
     Told(usize, usize),
     /// The first note to operators begins so, and has so many bytes.
@@ -100,6 +102,7 @@ fn holds<R: Threads + Wait + Sync>(
         }
         Step::Note(front, length) => Ok(is_noted(world, front, length)),
         Step::Restarts(number) => world.restart(rt, number),
+        Step::Records(number, wanted) => Ok(world.records(number)? == wanted),
         _ => Ok(false),
     }
 }

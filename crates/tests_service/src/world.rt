@@ -59,6 +59,8 @@ pub struct World {
     alloc: Global,
     terms: Terms,
     pub replicas: Vec<Replica>,
+    // the text of each as it was when it told something last
+    kept: Vec<Vec<u8>>,
     inboxes: Vec<Vec<Frame>>,
     /// What clients were told.
     pub replies: Vec<Vec<u8>>,
@@ -127,6 +129,14 @@ fn replicas_of(alloc: Global, terms: Terms, room: u32) -> Result<Vec<Replica>, F
     Ok(replicas)
 }
 
+fn texts_of(alloc: Global, replicas: &[Replica]) -> Result<Vec<Vec<u8>>, Memory> {
+    let mut texts = Vec::new(alloc);
+    for replica in replicas {
+        texts.push(replica.node().save()?)?;
+    }
+    Ok(texts)
+}
+
 fn no_frames(alloc: Global) -> Result<Vec<Vec<Frame>>, Memory> {
     let mut inboxes = Vec::new(alloc);
     for _ in 0..4u32 {
@@ -154,10 +164,12 @@ impl World {
     /// Four replicas, whose folders refuse all but so many calls.
     pub fn new(alloc: Global, terms: Terms, room: u32) -> Result<World, Fail> {
         let inboxes = no_frames(alloc)?;
+        let replicas = replicas_of(alloc, terms, room)?;
         Ok(World {
             alloc,
             terms,
-            replicas: replicas_of(alloc, terms, room)?,
+            kept: texts_of(alloc, &replicas)?,
+            replicas,
             inboxes,
             replies: Vec::new(alloc),
             notes: Vec::new(alloc),
@@ -204,9 +216,24 @@ impl World {
     ) -> Result<(), TurnError> {
         for number in 0..self.replicas.len() {
             let told = self.take_turn(rt, millis, up, number)?;
+            self.note(number, &told)?;
             self.carry(number, told)?;
         }
         Ok(())
+    }
+
+    // One that tells something is kept as it is.
+    fn note(&mut self, number: usize, told: &[Parcel]) -> Result<(), Memory> {
+        if told.is_empty() {
+            return Ok(());
+        }
+        match (self.replicas.get(number), self.kept.get_mut(number)) {
+            (Some(replica), Some(kept)) => {
+                *kept = replica.node().save()?;
+                Ok(())
+            }
+            _ => Ok(()),
+        }
     }
 
     fn take_turn<R: Threads + Wait + Sync>(
@@ -280,11 +307,20 @@ impl World {
         Ok(replica.node().digest(rt)?)
     }
 
-    /// The process of a replica ends, and the next one begins as the node that its folder holds. Whether that has the text of the node that there was.
+    /// How many records the folder of a replica has behind the saved one.
+    pub fn records(&self, number: usize) -> Result<usize, Memory> {
+        match self.replicas.get(number) {
+            Some(replica) => Ok(replica.folder().bodies()?.len()),
+            None => Ok(0),
+        }
+    }
+
+    /// The process of a replica ends, and the next one begins as the node that its folder holds. Whether that is as the last one was when it told something last.
     pub fn restart<R: Threads + Wait + Sync>(&mut self, rt: &R, number: u32) -> Result<bool, Fail> {
         let replica = self.replicas.get_mut(number as usize).ok_or("a replica")?;
         let node = recovered(rt, self.alloc, number, replica.folder())?;
-        let is_same = node.save()?.as_slice() == replica.node().save()?.as_slice();
+        let kept = self.kept.get(number as usize).ok_or("a text")?;
+        let is_same = node.save()?.as_slice() == kept.as_slice();
         *replica = begun(self.alloc, node, self.terms, u32::MAX)?;
         Ok(is_same)
     }

@@ -15,7 +15,7 @@ from service.testing.single import Asking, Ended, Single, copied, only, records
 
 CUTS, CHANGES = 60, 20  # journals that are cut, and changed
 REQUESTS = 8
-OTHER_KEYS = "it began with other keys"  # behind a line that tells how far the replica came
+OTHER_KEYS = "it began with other keys"
 VERSION = slice(4, 8)  # of the bytes of a saved replica
 
 
@@ -30,11 +30,11 @@ def worked(service, name, requests=REQUESTS):
     return folder
 
 
-def refused(service, folder, text, *options, number=0, lines=1):
-    """It is refused with that text in the last of so many lines, and the files stay as they are."""
+def refused(service, folder, text, *options, number=0):
+    """It is refused with that text in one line, and the files stay as they are."""
     before = {path.name: path.read_bytes() for path in Path(folder).glob("*-*")}
     status, said = Single(service, folder, *options, number=number).ends()
-    check(status == 2 and said.count("\n") == lines and text in said.splitlines()[-1], f"{text!r}: status {status}, {said}")
+    check(status == 2 and said.count("\n") == 1 and text in said, f"{text!r}: status {status}, {said}")
     check(before == {path.name: path.read_bytes() for path in Path(folder).glob("*-*")}, f"{text!r}: files were changed")
 
 
@@ -137,11 +137,11 @@ def other_keys(service):
         changed.write_text(change(before))
         check(changed.read_text() != before, f"{name} has not changed")
         of_another = type("Other", (), {"folder": other, "programs": service.programs})
-        refused(of_another, folder, OTHER_KEYS, lines=2)
+        refused(of_another, folder, OTHER_KEYS)
     noted = Path(folder, "keys")
     keys = noted.read_bytes()
     noted.unlink()
-    refused(service, folder, OTHER_KEYS, lines=2)
+    refused(service, folder, OTHER_KEYS)
     noted.write_bytes(keys)
     goes_on(service, folder, REQUESTS)
 
