@@ -131,7 +131,7 @@ module _ (f : ℕ) (keys : Keyring) where
       → ((k : ℕ) → StandsAs k (settled k) (before k)) → (k : ℕ) → StandsAs k (put who now settled k) (after k)
   stand_all P who settled now before after change here all k = either (k == who)
       (λ is_it. subst (λ (j : ℕ). StandsAs j (put who now settled j) (after j)) (sym (eqb-true k who is_it))
-        (subst (λ (n : Node). StandsAs who n (after who)) (sym (put_here who now settled)) here))
+      (subst (λ (n : Node). StandsAs who n (after who)) (sym (put_here who now settled)) here))
       (λ differs. subst (λ (n : Node). StandsAs k n (after k)) (sym (put_there who now settled k differs)) (subst (StandsAs k (settled k)) (sym (change.others k differs)) (all k)))
 
   -- of another process it is as it was
@@ -155,7 +155,7 @@ module _ (f : ℕ) (keys : Keyring) where
         from_is = λ k. either (k == t.who)
             (λ is_it. subst (λ (j : ℕ). IsFrom (event ∷ events) settled before j (from j)) (sym (eqb-true k t.who is_it)) (inr (put_here t.who (before t.who).acting rest.from)))
             (λ differs. subst (IsFrom (event ∷ events) settled before k) (sym (put_there t.who (before t.who).acting rest.from k differs))
-              (from_others P event events t.who settled now before next change later k differs (rest.from k) (rest.from_is k)));
+            (from_others P event events t.who settled now before next change later k differs (rest.from k) (rest.from_is k)));
         turns = t ∷ rest.turns;
         kept = kept;
         turned = (
@@ -268,7 +268,7 @@ pub lives_agree : ProcessesAgree → LivesAgree
 lives_agree agree f keys start events before after new of have =
     let settled : ℕ → Node = λ k. (before k).acting.node in
     let stands : (k : ℕ) → StandsAs f keys k (settled k) (before k) = λ k. stands_alone (keys k) (k < replicas f) (before k) (ap (λ (a : Acting). a.sent) (new.acting k))
-        (λ within. subst (λ (n : Node). IsHeld (keys k) (before k).held n) (sym (ap (λ (a : Acting). a.node) (new.acting k))) (new.held k within)) (new.due k) in
+    (λ within. subst (λ (n : Node). IsHeld (keys k) (before k).held n) (sym (ap (λ (a : Acting). a.node) (new.acting k))) (new.held k within)) (new.due k) in
     let got = lived f keys events settled before after stands of have in
     let begin : (k : ℕ) → got.from k ≡ new_processes f keys start k = λ k. elim (got.from_is k) [
       | inl held ↦ held.1 ∙ quiet_is (before k).acting (before k).acting.node (stands k).quiet refl ∙ new.acting k

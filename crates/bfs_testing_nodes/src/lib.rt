@@ -5,4 +5,5 @@
 pub mod calls;
 pub mod hashes;
 pub mod members;
+pub mod said;
 pub mod snapshots;

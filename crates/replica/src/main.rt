@@ -151,7 +151,10 @@ fn begin<'a, R: Runtime + Files<File = File> + AllocGlobal + Threads + Wait + Sy
     // by other keys its journal would not be made again
     let (next, is_noted) = match &held {
         Some(held) => {
-            (held.number.saturating_add(1), are_noted(rt, folder, &digest, replicas_sign)?)
+            (
+                held.number.saturating_add(1),
+                are_noted(rt, folder, &digest, replicas_sign)?,
+            )
         }
         None => (0, false),
     };

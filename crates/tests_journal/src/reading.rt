@@ -123,7 +123,7 @@ fn a_changed_journal_is_told_from_one_that_was_cut(rt: HostRuntime) -> Result<()
     let alloc = rt.alloc();
     let bytes = journal(alloc)?;
     let mut changes = Changes { state: 7 };
-    for _ in 0..4_000 {
+    for _ in 0..100_000 {
         let (change, changed) = changes.changed(alloc, bytes.as_slice(), bytes.as_slice())?;
         let (records, end, rest) = read(alloc, changed.as_slice())?;
         same!(rt; (records, end), known(alloc, changed.as_slice())?);

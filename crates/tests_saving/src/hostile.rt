@@ -5,11 +5,15 @@ use bfs_saving::seal;
 use bfs_testing::changes::Changes;
 use bfs_testing::{holds, same};
 use bfs_testing_nodes::members::Members;
+use bfs_testing_nodes::said::said_or;
 use bfs_types::Memory;
 use std::alloc::Global;
 use std::sync::Wait;
 use std::test::Fail;
 use std::thread::Threads;
+
+// how many changed texts a test reads, where `BFS_TEXTS` doesn't say it
+const TEXTS: u64 = 1_000;
 
 // of replica 2 after so many steps
 fn text<R: Threads + Wait + Sync>(rt: &R, alloc: Global, steps: u32) -> Result<Vec<u8>, Memory> {
@@ -53,7 +57,7 @@ fn changed_ones_are_refused(rt: HostRuntime) -> Result<(), Fail> {
     let alloc = rt.alloc();
     let (text, other) = (text(&rt, alloc, 400)?, text(&rt, alloc, 300)?);
     let mut changes = Changes { state: 1 };
-    for _ in 0..1_000 {
+    for _ in 0..said_or(&rt, "BFS_TEXTS", TEXTS) {
         let (_, changed) = changes.changed(alloc, &text, &other)?;
         let refused = refusal(&rt, alloc, MEMBERS, 2, &changed)?.is_some();
         holds!(rt; refused || changed.as_slice() == text.as_slice() || changed.as_slice() == other.as_slice());
@@ -82,7 +86,7 @@ fn those_with_a_right_digest_are_refused_or_spell_one(rt: HostRuntime) -> Result
     let alloc = rt.alloc();
     let (text, other) = (text(&rt, alloc, 400)?, text(&rt, alloc, 300)?);
     let mut changes = Changes { state: 2 };
-    for _ in 0..1_000 {
+    for _ in 0..said_or(&rt, "BFS_TEXTS", TEXTS) {
         let (_, mut changed) = changes.changed(alloc, body(&text), body(&other))?;
         seal(&mut changed)?;
         holds!(rt; are_its_own(&rt, alloc, &changed)?);

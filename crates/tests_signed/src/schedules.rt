@@ -5,13 +5,15 @@ use crate::playing::Play;
 use bfs_testing::same;
 use bfs_testing_liars::checks::Seen;
 use bfs_testing_liars::draws::{draws_of, happens, liars_among};
+use bfs_testing_nodes::said::said_or;
 use bfs_types::Memory;
 use std::alloc::Global;
+use std::rt::Runtime;
 use std::sync::Wait;
 use std::test::Fail;
 use std::thread::Threads;
 
-// how many schedules a test plays: for a longer run, more
+// how many schedules each of two tests plays, where `BFS_SCHEDULES` doesn't say it; the first seed is 0, or what `BFS_SEED` says
 const SCHEDULES: u64 = 10;
 
 // what must come about in them
@@ -53,15 +55,16 @@ fn played<R: Threads + Wait + Sync>(
     }
 }
 
-// the first seed from that one on whose schedule came to a fault, and whether enough came about in all
+// the first of so many seeds from that one on whose schedule came to a fault, and whether enough came about in all
 fn judged<R: Threads + Wait + Sync>(
     rt: &R,
     alloc: Global,
     first: u64,
+    count: u64,
 ) -> Result<(Option<(u64, Fault)>, bool), Memory> {
     let known = Known::all(alloc)?;
     let mut seen = Seen::NOTHING;
-    for ahead in 0..SCHEDULES {
+    for ahead in 0..count {
         let seed = first.wrapping_add(ahead);
         match played(rt, alloc, &known, seed)? {
             Ok(more) => seen = seen.and(more),
@@ -71,14 +74,24 @@ fn judged<R: Threads + Wait + Sync>(
     Ok((None, seen.reaches(LEAST)))
 }
 
+// those of the test of that number
+fn judged_by<R: Runtime + AllocGlobal + Threads + Wait + Sync>(
+    rt: &R,
+    test: u64,
+) -> Result<(Option<(u64, Fault)>, bool), Memory> {
+    let count = said_or(rt, "BFS_SCHEDULES", SCHEDULES);
+    let first = said_or(rt, "BFS_SEED", 0).wrapping_add(count.wrapping_mul(test));
+    judged(rt, rt.alloc(), first, count)
+}
+
 #[test]
-fn from_seed_0(rt: HostRuntime) -> Result<(), Fail> {
-    same!(rt; judged(&rt, rt.alloc(), 0)?, (None, true));
+fn of_the_first_seeds(rt: HostRuntime) -> Result<(), Fail> {
+    same!(rt; judged_by(&rt, 0)?, (None, true));
     Ok(())
 }
 
 #[test]
-fn from_seed_10(rt: HostRuntime) -> Result<(), Fail> {
-    same!(rt; judged(&rt, rt.alloc(), 10)?, (None, true));
+fn of_the_next_seeds(rt: HostRuntime) -> Result<(), Fail> {
+    same!(rt; judged_by(&rt, 1)?, (None, true));
     Ok(())
 }
