@@ -1,5 +1,5 @@
 -- What a folder holds behind a turn.
-use Rattle.std.proofs.Common.{◌≡◌, ◌∙◌, ℕ, Bool, true, List, [], ◌∷◌, ◌++◌, map, Option, Some, inl, inr, refl, sym, ap, subst}
+use Rattle.std.proofs.Common.{◌≡◌, ◌∙◌, ℕ, true, List, [], ◌∷◌, ◌++◌, map, Some, inl, inr, refl, sym, ap, subst}
 use Rattle.std.specs.Prelude.{◌⊎◌, OnErr, Result, Ok, Err}
 use Rattle.std.proofs.lemmas.Grind.{flat_map-append}
 use Rattle.std.proofs.lemmas.List.{map-append}
@@ -14,16 +14,15 @@ use Rattle.bfs_node.specs.Saving.{IsOf, IsSavable, text_of}
 use Rattle.bfs_nodes_agree.proofs.Public.{some_is}
 use Rattle.bfs_nodes_agree.specs.Nodes.Steps.{NodeStep, outcome}
 use Rattle.bfs_service.proofs.Public.{turned_keeps}
-use Rattle.bfs_service.specs.Acting.{Acting}
-use Rattle.bfs_service.specs.Journals.{AreSpelled, Doing, Journals, with_no_steps}
+use Rattle.bfs_service.specs.Journals.{Doing, Journals, with_no_steps}
 use Rattle.bfs_service.specs.Turns.{Turned}
 use Rattle.bfs_steps.proofs.Public.{bodies_read}
 use Rattle.bfs_steps.specs.Reading.{steps_from, steps_within}
 use Rattle.bfs_steps.specs.Replaying.{after_step, after_steps}
 use Rattle.bfs_steps.specs.Steps.{FitsStep, FitSteps, body_text, step_text}
 use Rattle.bfs_recovery.proofs.Holders.{of_step, of_steps, of_turns}
-use Rattle.bfs_recovery.specs.Holding.{AreDue, Held, IsHeld, after_turns, saved_as, with_body}
-use Rattle.bfs_recovery.specs.Keeping.{IsKept, IsKeptOrDue, IsSaved, Keeps, Kept, Due, Saved, Appended, Unchanged, all_due}
+use Rattle.bfs_recovery.specs.Holding.{AreDue, Held, IsHeld, saved_as, with_body}
+use Rattle.bfs_recovery.specs.Keeping.{IsKept, IsKeptOrDue, Keeps, Kept, Due, Saved, Appended, Unchanged, all_due}
 use Rattle.bfs_recovery.specs.Turns.{Holds, IsTaken, IsUntold, KeepsUp, Living, Settled, Waits}
 
 all_both : {A : Type 0} (P : A → Type 0) (xs ys : List A) → AllByRecursion P xs → AllByRecursion P ys → AllByRecursion P (xs ++ ys)
@@ -113,15 +112,6 @@ module _ (turn : Turn) (before doing : Doing) (told : List Told) (old : Keeps) (
     | inl same ↦ inl same
     | inr kept ↦ inr (record { acting = doing.acting; told = told; turned = turned; holds = kept_holds held kept })
   ]
-
--- What a store does, also where its folder refuses -----------------------------------------------------------------------------
-
-pub saved_or_not : (doing : Doing) (old : Keeps) (held : Held) → (held ≡ old.held) ⊎ IsSaved doing.acting.node held → (held ≡ old.held) ⊎ IsKept doing old held
-saved_or_not doing old held left = elim left [ inl same ↦ inl same | inr saved ↦ inr (Saved saved) ]
-
-pub appended_or_not : (doing : Doing) (old : Keeps) (held : Held) (body : List ℕ) → doing.is_spelled ≡ true → body ≡ all_due old doing → (held ≡ old.held) ⊎ (held ≡ with_body old.held body)
-    → (held ≡ old.held) ⊎ IsKept doing old held
-appended_or_not doing old held body spelled is left = elim left [ inl same ↦ inl same | inr more ↦ inr (Appended spelled (more ∙ ap (with_body old.held) is)) ]
 
 -- what holds at all holds of an error
 pub on_err : {T E : Type 0} (P : Type 0) (result : Result T E) → P → OnErr result P

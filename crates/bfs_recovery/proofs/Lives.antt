@@ -1,5 +1,5 @@
 -- A crash is a pause.
-use Rattle.std.proofs.Common.{◌≡◌, ◌∙◌, ℕ, Bool, true, false, cond, ◌==◌, ◌<◌, List, [], ◌∷◌, inl, inr, refl, sym, ap, subst, eqb-true}
+use Rattle.std.proofs.Common.{◌≡◌, ◌∙◌, ℕ, Bool, false, cond, ◌==◌, ◌<◌, List, [], ◌∷◌, inl, inr, refl, sym, ap, subst, eqb-true}
 use Rattle.std.proofs.lemmas.Bool.{eq-eqb}
 use Rattle.std.specs.Prelude.{◌⊎◌}
 use Rattle.std.specs.List.{AllByRecursion}
@@ -7,16 +7,16 @@ use Rattle.bfs_auth.specs.Keys.{Keys}
 use Rattle.bfs_frames.specs.Parcels.{Told}
 use Rattle.bfs_frames.specs.declared.frames.Turn.{Turn}
 use Rattle.bfs_node.specs.Nodes.{Messages, Node}
-use Rattle.bfs_nodes_agree.specs.Nodes.Replicas.{Beginning, Keyring, beginning_node}
+use Rattle.bfs_nodes_agree.specs.Nodes.Replicas.{Keyring}
 use Rattle.bfs_service.proofs.Public.{either}
 use Rattle.bfs_service.specs.Acting.{Acting}
-use Rattle.bfs_service.specs.Processes.{HasTurned, HaveTurned, Processes, ProcessesAgree, ProcessTurn, new_processes}
+use Rattle.bfs_service.specs.Processes.{HaveTurned, Processes, ProcessesAgree, ProcessTurn, new_processes}
 use Rattle.bfs_service.specs.Turns.{Turned}
 use Rattle.bfs_votes.specs.Votes.{replicas}
 use Rattle.bfs_recovery.specs.Holding.{AreDue, Held, IsHeld}
-use Rattle.bfs_recovery.specs.Lives.{Answers, Restarts, AreKept, AreNew, Changes, Ends, Event, Happens, HaveHappened, IsRestarted, Lives, LivesAgree, acting_in, who_of}
-use Rattle.bfs_recovery.specs.Turns.{Begins, IsTaken, IsUntold, KeepsUp, Living, Settled, Waits}
-use Rattle.bfs_recovery.proofs.Holding.{held_of, none_due, saved_alone}
+use Rattle.bfs_recovery.specs.Lives.{Answers, Restarts, AreKept, Changes, Ends, Event, HaveHappened, IsRestarted, Lives, LivesAgree, acting_in, who_of}
+use Rattle.bfs_recovery.specs.Turns.{Begins, IsTaken, KeepsUp, Living, Settled, Waits}
+use Rattle.bfs_recovery.proofs.Holding.{held_of, saved_alone}
 
 -- between turns nothing waits to be told
 abbrev IsQuiet : Acting → Type 0
