@@ -1,4 +1,4 @@
-ghost use Rattle.std.specs.Prelude.{◌≡◌, ◌⊎◌, [], OnErr, OnOk};
+ghost use Rattle.std.specs.Prelude.{◌≡◌, ◌⊎◌, ◌++◌, [], OnErr, OnOk};
 ghost use Rattle.bfs_journal.specs.Records.{IsBody};
 ghost use Rattle.bfs_recovery.specs.Holding.{with_body};
 ghost use Rattle.bfs_recovery.specs.Keeping.{IsKept, IsKeptOrDue, IsSaved};
@@ -9,6 +9,7 @@ use bfs_frames::Parcel;
 use bfs_journal::MOST_BODY_BYTES;
 use bfs_node::Node;
 use bfs_service::Service;
+use bfs_types::Memory;
 use std::alloc::Global;
 use std::marker::Model;
 
@@ -66,7 +67,7 @@ impl<F: Folder + Drop> Store<F> {
             self.save(service.node())?;
             return Ok(());
         }
-        self.due.extend_from_slice(service.steps())?;
+        self.wait(service.steps())?;
         if self.due.is_empty() {
             return Ok(());
         }
@@ -92,6 +93,15 @@ impl<F: Folder + Drop> Store<F> {
         self.saved = text.len();
         self.journaled = 0;
         self.due.clear();
+        Ok(())
+    }
+
+    // The text of more steps waits.
+    fn wait(&mut self, steps: &[u8]) -> Result<(), Memory>
+        ensures more { OnOk result (self.new ≡ record self.old { due = self.old.due ++ steps.now }) }
+        ensures held { self.new.held ≡ self.old.held }
+    {
+        self.due.extend_from_slice(steps)?;
         Ok(())
     }
 
