@@ -94,7 +94,7 @@ def damages(service):
 
 
 def others(service):
-    """A folder that another process has, another replica's, one of other settings or of another version, changed, empty, or used: each is refused."""
+    """A folder that another process has, another cluster's, one of another version, changed, empty, or used: each is refused."""
     folder = worked(service, "others")
     single = Single(service, folder)
     single.executed()
@@ -104,7 +104,7 @@ def others(service):
     other = f"{service.folder}/other"
     service.bfs("keys", other, "--f", "0", "--clients", "9", *QUICK)
     of_another = type("Other", (), {"folder": other, "programs": service.programs})
-    refused(of_another, folder, "the text is of a replica with other settings")
+    refused(of_another, folder, OTHER_KEYS)
     saved = only(folder, "saved")
     good = saved.read_bytes()
     for text, told in (
@@ -161,7 +161,7 @@ def crowded(service):
 def anothers(service):
     """Another replica's folder is refused."""
     folder = worked(service, "anothers", 0)
-    refused(service, folder, "the text is of another replica", number=1)
+    refused(service, folder, OTHER_KEYS, number=1)
 
 
 def full(service):
